@@ -1,0 +1,1 @@
+// Laws of lists, sums, bits and bytes.

@@ -1,0 +1,12 @@
+pub mod Lists
+pub mod Bytes
+pub mod Ring
+pub mod Hashes
+pub mod Fips202
+pub mod MlKemParts
+pub mod MlKem
+pub mod MlDsaParts
+pub mod MlDsa
+pub mod Calls
+pub mod Promises
+pub mod Cases
