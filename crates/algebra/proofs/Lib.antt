@@ -4,4 +4,7 @@ pub mod Congruence
 pub mod Tables
 pub mod Rows
 pub mod Bits
+pub mod Windows
+pub mod Streams
+pub mod Parts
 pub mod Packing
