@@ -5,3 +5,10 @@ pub mod Tables
 pub mod Rows
 pub mod Bits
 pub mod Packing
+pub mod Residues
+pub mod Inverse
+pub mod Transform
+pub mod NegacyclicProduct
+pub mod KemTransform
+pub mod DsaTransform
+pub mod Monomials
