@@ -12,3 +12,7 @@ pub mod NegacyclicProduct
 pub mod KemTransform
 pub mod DsaTransform
 pub mod Monomials
+pub mod Blocks
+pub mod ForwardLayers
+pub mod InverseLayers
+pub mod LayeredTransforms
