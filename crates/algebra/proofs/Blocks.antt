@@ -1,5 +1,5 @@
 -- A block of a layer, butterfly by butterfly.
-use mathlib.Core.Path.{_≡_, refl, ap, ap₂, fun-ext, sym, _∙_, subst}
+use mathlib.Core.Path.{_≡_, refl, ap, ap₂, sym, _∙_, subst}
 use mathlib.Core.Bool.{Bool, true, false, cond, _&&_}
 use mathlib.Core.List.{List}
 use mathlib.Core.Logic.{_⊎_, inl, inr, _≢_}
@@ -92,13 +92,11 @@ pub layerTo-none : (g h : ℕ → ℕ → ℕ → ℕ) (z : ℕ → ℕ) (len : 
 unfolding layerTo
 layerTo-none g h z len f = refl
 
-pub layerTo-more : (g h : ℕ → ℕ → ℕ → ℕ) (z : ℕ → ℕ) (len m : ℕ) (f : List ℕ) → blockTo (g (z m)) (h (z m)) (2 * len * m) len len (layerTo g h z len m f) ≡ layerTo g h z len (m + 1) f
+-- one more block, with the factor c
+pub layerTo-more : (g h : ℕ → ℕ → ℕ → ℕ) (z : ℕ → ℕ) (len m : ℕ) (f F G : List ℕ) (c : ℕ) → c ≡ z m → F ≡ layerTo g h z len m f → G ≡ blockTo (g c) (h c) (2 * len * m) len len F → G ≡ layerTo g h z len (m + 1) f
 unfolding layerTo
-layerTo-more g h z len m f = ap (λ x. layerTo g h z len x f) {x = suc m} (omega arith)
-
--- a layer whose factors are given otherwise
-pub layerTo-same : (g h : ℕ → ℕ → ℕ → ℕ) (y z : ℕ → ℕ) (len m : ℕ) (f : List ℕ) → ((b : ℕ) → y b ≡ z b) → layerTo g h y len m f ≡ layerTo g h z len m f
-layerTo-same g h y z len m f e = ap (λ x. layerTo g h x len m f) (fun-ext e)
+layerTo-more g h z len m f F G c e d b =
+    b ∙ (ap₂ (λ x y. blockTo (g x) (h x) (2 * len * m) len len y) e d ∙ ap (λ x. layerTo g h z len x f) {x = suc m} (omega arith))
 
 pub forwardLayers-none : (q : ℕ) (zs : List ℕ) (f : List ℕ) → f ≡ forwardLayers q zs 0 f
 unfolding forwardLayers
@@ -147,13 +145,14 @@ module _ (q : ℕ) (pos : 0 < q) where
 pub block-fits : (len m b : ℕ) → len * m ≡ 128 → b < m → 2 * len * b + 2 * len ≤ 256
 block-fits len m b e h = omega (arith, mul-le-mul-left {m = suc b} {n = m} len h)
 
-pub few-blocks : (len m : ℕ) → len * m ≡ 128 → m ≤ 128
-few-blocks zero m e = absurd (omega arith)
-few-blocks (suc len) m e = omega arith
+-- layer l, of 2^l blocks: the length of a block, and the number of blocks in a word of 64 bits
+pub record LayerShape (l : ℕ) : Type 0 where
+  pub whole : 128 / 2 ^ l * 2 ^ l ≡ 128
+  pub blocks : (1 * 2 ^ l) % 18446744073709551616 ≡ 2 ^ l
 
--- the length of a block in layer l, and how many blocks there are
-pub lengths : (l : ℕ) → l < 8 → (128 / 2 ^ l * 2 ^ l ≡ 128) × (128 / (128 / 2 ^ l) ≡ 2 ^ l)
+pub layer-shape : (l : ℕ) → l < 8 → LayerShape l
 unfolding allTo
-lengths l h =
-    let t = both (eqb (128 / 2 ^ l * 2 ^ l) 128) (eqb (128 / (128 / 2 ^ l)) (2 ^ l)) (all-to 8 (λ l. eqb (128 / 2 ^ l * 2 ^ l) 128 && eqb (128 / (128 / 2 ^ l)) (2 ^ l)) tt l h) in
-    (eqb→eq _ _ (t .0), eqb→eq _ _ (t .1))
+layer-shape l h =
+    let p : ℕ → Bool = λ l. eqb (128 / 2 ^ l * 2 ^ l) 128 && eqb ((1 * 2 ^ l) % 18446744073709551616) (2 ^ l) in
+    let t = both (eqb (128 / 2 ^ l * 2 ^ l) 128) (eqb ((1 * 2 ^ l) % 18446744073709551616) (2 ^ l)) (all-to 8 p tt l h) in
+    record { whole = eqb→eq _ _ (t .0); blocks = eqb→eq _ _ (t .1) }

@@ -16,3 +16,4 @@ pub mod Blocks
 pub mod ForwardLayers
 pub mod InverseLayers
 pub mod LayeredTransforms
+pub mod Words

@@ -1,9 +1,10 @@
 -- A transform in place, layer by layer, and its inverse. Assumes nothing.
 use mathlib.Core.Bool.{cond, _&&_}
 use mathlib.Core.List.{List}
-use Prim.Native.Nat.{ℕ, zero, suc, _+_, _-_, _*_, _/_, _%_, _^_}
-use lib.Dec.{ltb, leb}
-use Rattle.standards.specs.Lists.{table, at}
+use Prim.Native.Nat.{ℕ, zero, suc, _+_, _-_, _*_, _/_, _%_, _^_, _≤_}
+use lib.Dec.{ltb, leb, T}
+use lib.ListN.{length}
+use Rattle.standards.specs.Lists.{table, at, allBelow}
 use Rattle.standards.specs.Bytes.{bitRev}
 use Rattle.standards.specs.Ring.{power}
 use Rattle.algebra.specs.Modular.{addM, subM, mulM}
@@ -51,3 +52,7 @@ scaled q c f = table 256 (λ n. (c * at f n) % q)
 -- the factors of all layers: powers of w, by the index with its L bits reversed
 abbrev pub zetaTable : ℕ → ℕ → ℕ → List ℕ
 zetaTable q w L = table (2 ^ L) (λ i. power q w (bitRev L i))
+
+-- at least n factors, all below q
+abbrev pub Factors : ℕ → ℕ → List ℕ → Type 0
+Factors q n zs = (n ≤ length zs) × T (allBelow q zs)
