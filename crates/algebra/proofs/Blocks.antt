@@ -5,14 +5,15 @@ use mathlib.Core.List.{List}
 use mathlib.Core.Logic.{_⊎_, inl, inr, _≢_}
 use Prim.Native.Nat.{ℕ, zero, suc, _+_, _-_, _*_, _<_, _≤_, _/_, _%_, _^_}
 use native.Mathlib.Omega.{arith}
-use native.Mathlib.Nat.{mul-le-mul-left, mod-lt}
+use native.Mathlib.Nat.{mul-le-mul-left, mod-lt, pow-succ'}
+use lib.Pow.{pow-mono}
 use lib.Dec.{ltb, leb, eqb, T, eqb→eq}
 use lib.ListN.{length, set, getD}
 use Rattle.std.proofs.shelf.Lists.{ext-getD, length-set, getD-set-same, getD-set-other, getD-past}
 use Rattle.std.proofs.shelf.Tests.{cases-eq, cases-lt, cond-both}
 use Rattle.standards.specs.Lists.{table, at, allBelow}
 use Rattle.standards.specs.Ring.{Poly}
-use Rattle.algebra.specs.Layers.{ctLow, ctHigh, blockAt, gsLow, gsHigh, blockTo, layerTo, forwardLayers, inverseLayers}
+use Rattle.algebra.specs.Layers.{ctLow, ctHigh, blockAt, gsLow, gsHigh, blockTo, layerTo, forwardLayers, inverseLayers, Factors}
 use Rattle.algebra.proofs.Tests.{both, allTo, all-to}
 use Rattle.algebra.proofs.Tables.{length-table, at-table, is-table, at-below, at-small, below-table}
 
@@ -102,18 +103,20 @@ pub forwardLayers-none : (q : ℕ) (zs : List ℕ) (f : List ℕ) → f ≡ forw
 unfolding forwardLayers
 forwardLayers-none q zs f = refl
 
-pub forwardLayers-more : (q : ℕ) (zs : List ℕ) (l : ℕ) (f : List ℕ) → layerTo (ctLow q) (ctHigh q) (λ m. at zs (2 ^ l + m)) (128 / 2 ^ l) (2 ^ l) (forwardLayers q zs l f) ≡ forwardLayers q zs (l + 1) f
+-- one more layer
+pub forwardLayers-more : (q : ℕ) (zs : List ℕ) (l : ℕ) (f F G : List ℕ) → F ≡ forwardLayers q zs l f → G ≡ layerTo (ctLow q) (ctHigh q) (λ m. at zs (2 ^ l + m)) (128 / 2 ^ l) (2 ^ l) F → G ≡ forwardLayers q zs (l + 1) f
 unfolding forwardLayers
-forwardLayers-more q zs l f = ap (λ x. forwardLayers q zs x f) {x = suc l} (omega arith)
+forwardLayers-more q zs l f F G d e = e ∙ (ap (layerTo (ctLow q) (ctHigh q) (λ m. at zs (2 ^ l + m)) (128 / 2 ^ l) (2 ^ l)) d ∙ ap (λ x. forwardLayers q zs x f) {x = suc l} (omega arith))
 
 pub inverseLayers-none : (q : ℕ) (zs : List ℕ) (L : ℕ) (f : List ℕ) → f ≡ inverseLayers q zs L 0 f
 unfolding inverseLayers
 inverseLayers-none q zs L f = refl
 
-pub inverseLayers-more : (q : ℕ) (zs : List ℕ) (L l : ℕ) (f : List ℕ) →
-    layerTo (gsLow q) (gsHigh q) (λ m. at zs (2 * 2 ^ (L - 1 - l) - 1 - m)) (128 / 2 ^ (L - 1 - l)) (2 ^ (L - 1 - l)) (inverseLayers q zs L l f) ≡ inverseLayers q zs L (l + 1) f
+pub inverseLayers-more : (q : ℕ) (zs : List ℕ) (L l : ℕ) (f F G : List ℕ) → F ≡ inverseLayers q zs L l f →
+    G ≡ layerTo (gsLow q) (gsHigh q) (λ m. at zs (2 * 2 ^ (L - 1 - l) - 1 - m)) (128 / 2 ^ (L - 1 - l)) (2 ^ (L - 1 - l)) F → G ≡ inverseLayers q zs L (l + 1) f
 unfolding inverseLayers
-inverseLayers-more q zs L l f = ap (λ x. inverseLayers q zs L x f) {x = suc l} (omega arith)
+inverseLayers-more q zs L l f F G d e =
+    e ∙ (ap (layerTo (gsLow q) (gsHigh q) (λ m. at zs (2 * 2 ^ (L - 1 - l) - 1 - m)) (128 / 2 ^ (L - 1 - l)) (2 ^ (L - 1 - l))) d ∙ ap (λ x. inverseLayers q zs L x f) {x = suc l} (omega arith))
 
 -- polynomials stay polynomials
 module _ (q : ℕ) (pos : 0 < q) where
@@ -156,3 +159,7 @@ layer-shape l h =
     let p : ℕ → Bool = λ l. eqb (128 / 2 ^ l * 2 ^ l) 128 && eqb ((1 * 2 ^ l) % 18446744073709551616) (2 ^ l) in
     let t = both (eqb (128 / 2 ^ l * 2 ^ l) 128) (eqb ((1 * 2 ^ l) % 18446744073709551616) (2 ^ l)) (all-to 8 p tt l h) in
     record { whole = eqb→eq _ _ (t .0); blocks = eqb→eq _ _ (t .1) }
+
+-- factors for all layers are enough for each
+pub fewer-factors : (q L l : ℕ) (zs : List ℕ) → l < L → Factors q (2 ^ L) zs → Factors q (2 * 2 ^ l) zs
+fewer-factors q L l zs h w = (omega (arith, pow-succ' 2 l, pow-mono {i = suc l} {j = L} h, w .0), w .1)

@@ -10,7 +10,8 @@ use Rattle.standards.specs.Bytes.{bitRev}
 use Rattle.standards.specs.Ring.{Poly}
 use Rattle.standards.specs.MlKemParts.{ntt as kemNtt, nttInv as kemNttInv}
 use Rattle.standards.specs.MlDsaParts.{ntt as dsaNtt, nttInv as dsaNttInv}
-use Rattle.algebra.specs.Layers.{forwardLayers, inverseLayers, scaled, zetaTable}
+use Rattle.algebra.specs.Layers.{forwardLayers, inverseLayers, zetaTable}
+use Rattle.algebra.specs.Modular.{scaled}
 use Rattle.algebra.proofs.Congruence.{Same, _▸_, back-of, same-is, same-mod, same-scale}
 use Rattle.algebra.proofs.Transform.{forward-is-residue, inverse-is-interpolant, inverses}
 use Rattle.algebra.proofs.DsaTransform.{as-forward, as-inverse}

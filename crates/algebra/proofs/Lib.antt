@@ -17,3 +17,5 @@ pub mod ForwardLayers
 pub mod InverseLayers
 pub mod LayeredTransforms
 pub mod Words
+pub mod Plain
+pub mod BaseCase

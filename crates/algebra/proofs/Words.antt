@@ -20,6 +20,23 @@ pub record Filled (t : ℕ → ℕ) (f : List ℕ) (i : ℕ) (F : List ℕ) : Ty
   pub done : (k : ℕ) → k < i → at F k ≡ t k
   pub rest : (k : ℕ) → i ≤ k → at F k ≡ at f k
 
+pub filled-none : (t : ℕ → ℕ) (f : List ℕ) → length f ≡ 256 → Filled t f 0 f
+filled-none t f h = record { long = h; done = λ k l. absurd (omega arith); rest = λ k _. refl }
+
+pub filled-set : (t : ℕ → ℕ) (f : List ℕ) (i : ℕ) (F : List ℕ) (x : ℕ) → i < 256 → x ≡ t i → Filled t f i F → Filled t f (i + 1) (set F i x)
+filled-set t f i F x h e w =
+    record {
+      long = length-set F i x ∙ w .long;
+      done = λ k l. elim (cases-eq k i) [ inl s ↦ rw s (getD-set-same F i x 0 (omega (arith, w .long)) ∙ e) | inr ne ↦ getD-set-other F i k x 0 ne ∙ w .done k (omega arith) ];
+      rest = λ k l. getD-set-other F i k x 0 (λ s. omega arith) ∙ w .rest k (omega arith);
+    }
+
+-- two numbers a turn
+pub filled-pair : (t : ℕ → ℕ) (f : List ℕ) (i : ℕ) (F : List ℕ) (x y : ℕ) → i < 128 → x ≡ t (2 * i) → y ≡ t (2 * i + 1) → Filled t f (2 * i) F → Filled t f (2 * (i + 1)) (set (set F (2 * i) x) (2 * i + 1) y)
+filled-pair t f i F x y h d e w =
+    subst (λ n. Filled t f n (set (set F (2 * i) x) (2 * i + 1) y)) {x = 2 * i + 1 + 1} (omega arith)
+    (filled-set t f (2 * i + 1) (set F (2 * i) x) y (omega arith) e (filled-set t f (2 * i) F x (omega arith) d w))
+
 pub filled-all : (t : ℕ → ℕ) (f F : List ℕ) (i : ℕ) → 256 ≤ i → Filled t f i F → F ≡ table 256 t
 filled-all t f F i h w = is-table 256 t F (w .long) (λ k l. w .done k (omega arith))
 
@@ -34,17 +51,29 @@ module _ {A : Type 0} (v : A → ℕ) where
   pub read-below : (q : ℕ) → 0 < q → (xs : List A) → T (allBelow q (map v xs)) → (i : ℕ) (x : A) → x ≡ getD xs i x → i < length xs → v x < q
   read-below q pos xs b i x e h = rw (read-is xs i x e h) (at-small q (map v xs) pos b i)
 
-  pub filled-none : (t : ℕ → ℕ) (f : List A) → length (map v f) ≡ 256 → Filled t (map v f) 0 (map v f)
-  filled-none t f h = record { long = h; done = λ k l. absurd (omega arith); rest = λ k _. refl }
+  module _ (t : ℕ → ℕ) (f F : List A) (i : ℕ) (w : Filled t (map v f) i (map v F)) (h : i < 256) where
+    -- a word that the loop has not come to
+    pub rest-is : (d : A) → v (getD F i d) ≡ at (map v f) i
+    rest-is d = read F i d (omega (arith, length-map F v, w .long)) ∙ w .rest i (omega arith)
+
+    pub rest-below : (q : ℕ) → 0 < q → Poly q (map v f) → (d : A) → v (getD F i d) < q
+    rest-below q pos poly d = rw (rest-is d) (at-small q (map v f) pos (poly .1) i)
+
+  -- a word of another row
+  pub other-is : (q : ℕ) (f : List A) → Poly q (map v f) → (i : ℕ) → i < 256 → (d : A) → v (getD f i d) ≡ at (map v f) i
+  other-is q f poly i h d = read f i d (omega (arith, length-map f v, poly .0))
+
+  pub other-below : (q : ℕ) → 0 < q → (f : List A) → Poly q (map v f) → (i : ℕ) → i < 256 → (d : A) → v (getD f i d) < q
+  other-below q pos f poly i h d = rw (other-is q f poly i h d) (at-small q (map v f) pos (poly .1) i)
 
   pub filled-more : (t : ℕ → ℕ) (f : List ℕ) (i : ℕ) (F : List A) (x : A) → i < 256 → v x ≡ t i → Filled t f i (map v F) → Filled t f (i + 1) (map v (set F i x))
-  filled-more t f i F x h e w =
-      subst (Filled t f (i + 1)) (sym (map-set v F i x))
-      (record {
-        long = length-set (map v F) i (v x) ∙ w .long;
-        done = λ k l. elim (cases-eq k i) [ inl s ↦ rw s (getD-set-same (map v F) i (v x) 0 (omega (arith, w .long)) ∙ e) | inr ne ↦ getD-set-other (map v F) i k (v x) 0 ne ∙ w .done k (omega arith) ];
-        rest = λ k l. getD-set-other (map v F) i k (v x) 0 (λ s. omega arith) ∙ w .rest k (omega arith);
-      })
+  filled-more t f i F x h e w = subst (Filled t f (i + 1)) (sym (map-set v F i x)) (filled-set t f i (map v F) (v x) h e w)
+
+  -- the same where each number is op of two that were read, of the row itself and of another
+  pub each-more : (op : ℕ → ℕ → ℕ) (f g F : List A) (i : ℕ) (a b x : A) → i < 256 → length (map v g) ≡ 256 → v x ≡ op (v (getD F i a)) (v (getD g i b)) →
+      Filled (λ k. op (at (map v f) k) (at (map v g) k)) (map v f) i (map v F) → Filled (λ k. op (at (map v f) k) (at (map v g) k)) (map v f) (i + 1) (map v (set F i x))
+  each-more op f g F i a b x h l e w =
+      filled-more _ (map v f) i F x h (e ∙ ap₂ op (rest-is _ f F i w h a) (read g i b (omega (arith, length-map g v)))) w
 
   -- ---- a block, butterfly by butterfly; lo and hi are what the butterfly gives of two words that were read
   module _ (g h : ℕ → ℕ → ℕ) (start len d : ℕ) (f F : List A) (done : map v F ≡ blockTo g h start len d (map v f)) (more : d < len) (fits : start + 2 * len ≤ 256) where

@@ -46,9 +46,6 @@ inverseLayers q zs L zero f = f
 inverseLayers q zs L (suc l) f =
     let n = L - 1 - l in layerTo (gsLow q) (gsHigh q) (λ m. at zs (2 * 2 ^ n - 1 - m)) (128 / 2 ^ n) (2 ^ n) (inverseLayers q zs L l f)
 
-abbrev pub scaled : ℕ → ℕ → List ℕ → List ℕ
-scaled q c f = table 256 (λ n. (c * at f n) % q)
-
 -- the factors of all layers: powers of w, by the index with its L bits reversed
 abbrev pub zetaTable : ℕ → ℕ → ℕ → List ℕ
 zetaTable q w L = table (2 ^ L) (λ i. power q w (bitRev L i))
