@@ -23,6 +23,9 @@ pub record Filled (t : ℕ → ℕ) (f : List ℕ) (i : ℕ) (F : List ℕ) : Ty
 pub filled-none : (t : ℕ → ℕ) (f : List ℕ) → length f ≡ 256 → Filled t f 0 f
 filled-none t f h = record { long = h; done = λ k l. absurd (omega arith); rest = λ k _. refl }
 
+pub filled-below : (q : ℕ) (t : ℕ → ℕ) (f : List ℕ) (i : ℕ) (F : List ℕ) → 0 < q → T (allBelow q f) → Filled t f i F → (k : ℕ) → i ≤ k → at F k < q
+filled-below q t f i F pos b w k h = rw (w .rest k h) (at-small q f pos b k)
+
 pub filled-set : (t : ℕ → ℕ) (f : List ℕ) (i : ℕ) (F : List ℕ) (x : ℕ) → i < 256 → x ≡ t i → Filled t f i F → Filled t f (i + 1) (set F i x)
 filled-set t f i F x h e w =
     record {
