@@ -8,3 +8,17 @@ pub mod Windows
 pub mod Streams
 pub mod Parts
 pub mod Packing
+pub mod Residues
+pub mod Inverse
+pub mod Transform
+pub mod NegacyclicProduct
+pub mod KemTransform
+pub mod DsaTransform
+pub mod Monomials
+pub mod Blocks
+pub mod ForwardLayers
+pub mod InverseLayers
+pub mod LayeredTransforms
+pub mod Words
+pub mod Plain
+pub mod BaseCase

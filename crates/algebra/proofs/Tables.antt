@@ -100,3 +100,6 @@ below-drop q (suc n) (x ∷ xs) a = below-drop q n xs (both (ltb x q) (allBelow 
 pub is-remainders : (q n : ℕ) (f : ℕ → ℕ) (g : List ℕ) → length g ≡ n → T (allBelow q g) → ((k : ℕ) → k < n → Same q (f k) (at g k)) → table n (λ k. f k % q) ≡ g
 is-remainders q n f g l b h =
     sym (is-table n (λ k. f k % q) g l (λ k s. sym (mod-eq-of-lt (at-below q g k b (omega arith))) ∙ sym (h k s .is)))
+
+pub at-small : (q : ℕ) (f : List ℕ) → 0 < q → T (allBelow q f) → (n : ℕ) → at f n < q
+at-small q f p h n = elim (cases-lt n (length f)) [ inl l ↦ at-below q f n h l | inr l ↦ rw (getD-past f n 0 l) p ]
