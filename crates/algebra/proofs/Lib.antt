@@ -3,6 +3,7 @@ pub mod Sums
 pub mod Congruence
 pub mod Tables
 pub mod Rows
+pub mod Norms
 pub mod Bits
 pub mod Windows
 pub mod Streams

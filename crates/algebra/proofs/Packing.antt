@@ -2,7 +2,7 @@
 -- d bits; so each undoes the other. For n numbers and m bytes, where d * n is 8 * m.
 use mathlib.Core.Path.{_≡_, ap, sym, _∙_, subst}
 use mathlib.Core.List.{List}
-use Prim.Native.Nat.{ℕ, _+_, _-_, _*_, _<_, _≤_, _/_, _%_, _^_}
+use Prim.Native.Nat.{ℕ, zero, suc, _+_, _-_, _*_, _<_, _≤_, _/_, _%_, _^_}
 use native.Mathlib.Omega.{arith}
 use native.Mathlib.Nat.{mod-eq-of-lt, mul-comm, mul-le-mul-left}
 use lib.Dec.{T}
@@ -72,8 +72,10 @@ unpack-eight d n g bs l h =
 pub length-pack : (d n m : ℕ) (f : List ℕ) → d * n ≡ 8 * m → length f ≡ n → length (pack d f) ≡ m
 length-pack d n m f e l = length-table (d * length f / 8) _ ∙ (ap (λ x. d * x / 8) l ∙ omega arith)
 
-pub below-pack : (d : ℕ) (f : List ℕ) → 0 < d → T (allBelow 256 (pack d f))
-below-pack d f p = subst (λ x. T (allBelow 256 x)) (sym (pack-is d f p)) (below-table 256 (d * length f / 8) _ (λ k _. window-below (whole d f) (8 * k) 8))
+pub below-pack : (d : ℕ) (f : List ℕ) → T (allBelow 256 (pack d f))
+below-pack zero f = below-table 256 (0 * length f / 8) _ (λ k h. absurd (omega arith))
+below-pack (suc d) f =
+    subst (λ x. T (allBelow 256 x)) (sym (pack-is (suc d) f (omega arith))) (below-table 256 (suc d * length f / 8) _ (λ k _. window-below (whole (suc d) f) (8 * k) 8))
 
 pub below-unpack : (d n : ℕ) (bs : List ℕ) → T (allBelow (2 ^ d) (unpack d n bs))
 below-unpack d n bs = subst (λ x. T (allBelow (2 ^ d) x)) (sym (unpack-is d n bs)) (below-table (2 ^ d) n _ (λ i _. window-below (whole 8 bs) (d * i) d))
@@ -100,7 +102,7 @@ pack-unpack d n m bs p e l small =
 
 pub packing : PackingGoesBothWays
 packing d f p l small = (
-  (length-pack d 256 (32 * d) f (omega arith) l, below-pack d f p),
+  (length-pack d 256 (32 * d) f (omega arith) l, below-pack d f),
   unpack-pack d 256 (32 * d) f p (omega arith) l small,
   (λ bs h. (below-unpack d 256 bs, pack-unpack d 256 (32 * d) bs p (omega arith) (h .0) (h .1))),
 )
