@@ -8,6 +8,7 @@ pub mod Bits
 pub mod Windows
 pub mod Streams
 pub mod Parts
+pub mod Draws
 pub mod Packing
 pub mod Residues
 pub mod Inverse

@@ -1,4 +1,4 @@
--- How magnitude from 0, and the largest number of a list and of rows.
+-- How far from 0, and the largest number of a list and of rows.
 use mathlib.Core.Path.{_≡_, ap}
 use mathlib.Core.Bool.{cond}
 use mathlib.Core.List.{List, [], _∷_}

@@ -89,9 +89,12 @@ again b n xs l small = sym (is-table n _ xs l (λ i h. sym (digit b xs i ∙ mod
 rejoined : (b c n m : ℕ) (xs : List ℕ) → b * n ≡ c * m → length xs ≡ n → whole c (table m (λ k. window (whole b xs) (c * k) c)) ≡ whole b xs
 rejoined b c n m xs e l = whole-windows c (whole b xs) m ∙ window-all (whole b xs) (c * m) (subst (λ x. whole b xs < 2 ^ x) (ap (λ x. b * x) l ∙ e) (whole-below b xs))
 
-pub unpack-pack : (d n m : ℕ) (f : List ℕ) → 0 < d → d * n ≡ 8 * m → length f ≡ n → T (allBelow (2 ^ d) f) → unpack d n (pack d f) ≡ f
-unpack-pack d n m f p e l small =
-    let bytes : pack d f ≡ packed d f m = pack-is d f p ∙ ap (packed d f) (ap (λ x. d * x / 8) l ∙ omega arith) in
+pub unpack-pack : (d n m : ℕ) (f : List ℕ) → d * n ≡ 8 * m → length f ≡ n → T (allBelow (2 ^ d) f) → unpack d n (pack d f) ≡ f
+unfolding sumTo
+unpack-pack zero n m f e l small = sym (is-table n _ f l (λ i h. omega (arith, at-below 1 f i small (omega arith))))
+unpack-pack (suc w) n m f e l small =
+    let d = suc w in
+    let bytes : pack d f ≡ packed d f m = pack-is d f (omega arith) ∙ ap (packed d f) (ap (λ x. d * x / 8) l ∙ omega arith) in
     ap (unpack d n) bytes ∙ (unpack-is d n (packed d f m) ∙ (ap (λ v. table n (λ i. window v (d * i) d)) (rejoined d 8 n m f e l) ∙ again d n f l small))
 
 pub pack-unpack : (d n m : ℕ) (bs : List ℕ) → 0 < d → d * n ≡ 8 * m → length bs ≡ m → T (allBelow 256 bs) → pack d (unpack d n bs) ≡ bs
@@ -103,6 +106,6 @@ pack-unpack d n m bs p e l small =
 pub packing : PackingGoesBothWays
 packing d f p l small = (
   (length-pack d 256 (32 * d) f (omega arith) l, below-pack d f),
-  unpack-pack d 256 (32 * d) f p (omega arith) l small,
+  unpack-pack d 256 (32 * d) f (omega arith) l small,
   (λ bs h. (below-unpack d 256 bs, pack-unpack d 256 (32 * d) bs p (omega arith) (h .0) (h .1))),
 )

@@ -39,7 +39,7 @@ module _ (n : ℕ) (f : ℕ → List ℕ) (long : (i : ℕ) → length (f i) ≡
         each : (k : ℕ) → k < 256 → at (unpack 12 256 (take 384 (drop (384 * i) (joined (tables n (λ i. pack 12 (f i))) ++ rest)))) k % 3329 ≡ at (f i) k
         each k l =
             ap (λ x. at (unpack 12 256 x) k % 3329) (packed-at 12 rest i h) ∙
-            (ap (λ x. at x k % 3329) (unpack-pack 12 256 384 (f i) (lit< tt) refl (long i) (below-weaker 3329 4096 (f i) (lit≤ tt) (small i))) ∙ mod-eq-of-lt (at-below 3329 (f i) k (small i) (omega (arith, long i))))
+            (ap (λ x. at x k % 3329) (unpack-pack 12 256 384 (f i) refl (long i) (below-weaker 3329 4096 (f i) (lit≤ tt) (small i))) ∙ mod-eq-of-lt (at-below 3329 (f i) k (small i) (omega (arith, long i))))
 
     pub packed-again : joined (tables n (λ i. pack 12 (keyRow (joined (tables n (λ i. pack 12 (f i))) ++ rest) i))) ≡ joined (tables n (λ i. pack 12 (f i)))
     packed-again = ap joined (tables-same n (λ i. pack 12 (keyRow (joined (tables n (λ i. pack 12 (f i))) ++ rest) i)) (λ i. pack 12 (f i)) (λ i h. ap (pack 12) (poly-at i h)))

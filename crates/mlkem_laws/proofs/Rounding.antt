@@ -1,4 +1,4 @@
--- A message is read back from what is wOf of it and noise below a quarter.
+-- A message is read back from what is left of it and noise below a quarter.
 use mathlib.Core.Path.{_≡_, refl, ap, _∙_, subst}
 use mathlib.Core.List.{List}
 use mathlib.Core.Logic.{_⊎_, inl, inr}
