@@ -1,0 +1,26 @@
+-- The code's sets and refusals, as the standards' text has them.
+use Prim.Native.Nat.{ℕ, _<_, _≤_}
+use Rattle.standards.specs.MlKemParts.{KemSet as KemNumbers}
+use Rattle.sets.specs.declared.types.KemSet.{KemSet}
+use Rattle.sets.specs.declared.types.Refusal.{Refusal}
+use Rattle.sets.specs.declared.types.Refusal.the-variants.{NoSet, Length, Key, Draw, Context, Attempts}
+use Rattle.std.specs.declared.result.Result.{Result}
+use Rattle.std.specs.declared.result.Result.the-variants.{Ok, Err}
+
+-- the numbers of a set
+abbrev pub kemNumbers : KemSet → KemNumbers
+kemNumbers p = record { k = p .k; eta1 = p .eta1; eta2 = p .eta2; du = p .du; dv = p .dv }
+
+-- the number of a refusal
+abbrev pub numberOf : Refusal → ℕ
+numberOf NoSet = 1
+numberOf Length = 2
+numberOf Key = 3
+numberOf Draw = 4
+numberOf Context = 5
+numberOf Attempts = 6
+
+-- 0, or the refusal's number
+abbrev pub verdictOf : {X : Type 0} → Result X Refusal → ℕ
+verdictOf (Ok x) = 0
+verdictOf (Err e) = numberOf e
