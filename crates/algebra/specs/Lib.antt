@@ -1,2 +1,3 @@
 pub mod Modular
 pub mod Layers
+pub mod Draws
