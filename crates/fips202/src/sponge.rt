@@ -7,7 +7,7 @@ ghost use Rattle.standards.specs.Lists.{table};
 ghost use Rattle.standards.specs.Fips202.{laneOf, stateByte};
 ghost use Rattle.hash.specs.Streams.{later};
 ghost use Rattle.fips202_laws.specs.Sponges.{absorbedFrom, streamFrom, readFrom, Absorbs, mixedByte, mixedLanes};
-use crate::permutation::permute;
+use keccak::permute;
 
 // Lane i of some bytes, the lowest byte first.
 fn lane_at(bytes: &[u8], i: usize) -> u64

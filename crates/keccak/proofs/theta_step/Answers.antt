@@ -5,7 +5,7 @@ use lib.ListN.{getD}
 use lib.Bits.{bitXor}
 use Rattle.standards.specs.Lists.{from}
 use Rattle.standards.specs.Fips202.{rotl}
-use Rattle.fips202.proofs.permutation.theta_step.Needs as need
+use Rattle.keccak.proofs.theta_step.Needs as need
 
 pub returns : need.returns
 unfolding from

@@ -2,7 +2,7 @@ use mathlib.Core.Path.{_≡_}
 use lib.ListN.{drop}
 use Rattle.standards.specs.Fips202.{rounds, keccakF}
 use Rattle.fips202_laws.proofs.Constants.{constants}
-use Rattle.fips202.proofs.permutation.permute.Given as given
+use Rattle.keccak.proofs.permute.Given as given
 
 -- the rounds that are left give the permutation of what was there at first
 abbrev pub Inv-loop-constant : given.InvT-loop-constant

@@ -3,7 +3,7 @@ use native.Mathlib.Omega.{arith}
 use Rattle.standards.specs.Fips202.{pi, rho, chi, rounds}
 use Rattle.fips202_laws.proofs.Constants.{constants-are}
 use Rattle.fips202_laws.proofs.Rounds.{rounds-more, rounds-all}
-use Rattle.fips202.proofs.permutation.permute.Needs as need
+use Rattle.keccak.proofs.permute.Needs as need
 
 pub loop-constant-holds : need.loop-constant-holds
 loop-constant-holds c = ap (λ cs. rounds cs (c .args .a .now)) constants-are

@@ -1,6 +1,6 @@
 use mathlib.Core.List.{[], _∷_}
 use Rattle.standards.specs.Lists.{from}
-use Rattle.fips202.proofs.permutation.chi_step.Needs as need
+use Rattle.keccak.proofs.chi_step.Needs as need
 
 pub returns : need.returns
 unfolding from
