@@ -4,7 +4,6 @@ ghost use mathlib.Core.List.{[]};
 ghost use lib.ListN.{length};
 ghost use Rattle.standards.specs.Lists.{table};
 ghost use Rattle.standards.specs.Fips202.{keccakF, fips202};
-
 use fips202::functions::Fips202Hash;
 use hash::Hash;
 use hash::Reader;
