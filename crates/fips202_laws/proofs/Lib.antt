@@ -1,0 +1,10 @@
+pub mod Constants
+pub mod Rotations
+pub mod Rounds
+pub mod Patches
+pub mod Absorbing
+pub mod Ending
+pub mod Reading
+pub mod Lanes
+pub mod Fairness
+pub mod Digests
