@@ -14,7 +14,7 @@ use Rattle.standards.specs.Promises.{PackingGoesBothWays}
 use Rattle.algebra.proofs.Tables.{length-table, at-table, is-table, table-same, at-below, below-table}
 use Rattle.algebra.proofs.Bits.{sum-bits}
 use Rattle.algebra.proofs.Sums.{sum-same}
-use Rattle.algebra.proofs.Windows.{window, whole, window-below, window-window, window-all, digit, whole-below, whole-windows, whole-part, bit-whole}
+use Rattle.algebra.proofs.Windows.{window, whole, window-below, window-window, bit-of-low, window-all, digit, whole-below, whole-windows, whole-part, bit-whole}
 use Rattle.algebra.proofs.Parts.{part-table}
 
 -- a sum of the bits of v from place a on
@@ -69,6 +69,20 @@ unpack-eight d n g bs l h =
     (table-same 8 _ _ each ∙ (sym (part-table (unpacked d (8 * n) bs) (8 * g) 8 (omega (arith, length-table (8 * n) (λ k. window v (d * k) d)))) ∙
     ap (λ x. take 8 (drop (8 * g) x)) (sym (unpack-is d (8 * n) bs)))))
 
+-- ---- a number of one bit, and a bit of a number of d bits
+pub unpack-bit : (n : ℕ) (bs : List ℕ) (i : ℕ) → i < n → at (unpack 1 n bs) i ≡ bit bs i
+unfolding sumTo
+unpack-bit n bs i h = at-table n _ i h ∙ omega (arith, ap (bit bs) {x = i * 1 + 0} {y = i} (omega arith))
+
+pub bit-of-unpack : (d n : ℕ) (bs : List ℕ) (i j : ℕ) → i < n → j < d → (at (unpack d n bs) i / 2 ^ j) % 2 ≡ bit bs (i * d + j)
+bit-of-unpack d n bs i j hi hj =
+    let v = whole 8 bs in
+    ap (λ x. (at x i / 2 ^ j) % 2) (unpack-is d n bs) ∙
+    (ap (λ x. (x / 2 ^ j) % 2) (at-table n _ i hi) ∙
+    (bit-of-low (v / 2 ^ (d * i)) d j hj ∙
+    (ap (λ x. x % 2) (shr-shr v (d * i) j) ∙ (bit-whole 8 bs (d * i + j) (omega arith) ∙ ap (λ x. bit bs (x + j)) (mul-comm d i)))))
+
+-- ---- lengths and bounds
 pub length-pack : (d n m : ℕ) (f : List ℕ) → d * n ≡ 8 * m → length f ≡ n → length (pack d f) ≡ m
 length-pack d n m f e l = length-table (d * length f / 8) _ ∙ (ap (λ x. d * x / 8) l ∙ omega arith)
 

@@ -19,7 +19,7 @@ whole b [] = 0
 whole b (x ∷ xs) = whole b xs * 2 ^ b + x % 2 ^ b
 
 -- a bit below place b is that of the low b bits
-bit-of-low : (x b r : ℕ) → r < b → ((x % 2 ^ b) / 2 ^ r) % 2 ≡ (x / 2 ^ r) % 2
+pub bit-of-low : (x b r : ℕ) → r < b → ((x % 2 ^ b) / 2 ^ r) % 2 ≡ (x / 2 ^ r) % 2
 bit-of-low x b r h =
     let up : x / 2 ^ b * 2 ^ b ≡ (2 * (x / 2 ^ b * 2 ^ (b - r - 1))) * 2 ^ r =
     ap (λ n. x / 2 ^ b * 2 ^ n) {x = b} {y = suc ((b - r - 1) + r)} (omega arith) ∙ rw (pow-succ' 2 ((b - r - 1) + r), pow-add 2 (b - r - 1) r) (omega arith) in

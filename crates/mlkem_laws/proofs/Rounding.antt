@@ -1,5 +1,5 @@
 -- A message is read back from what is left of it and noise below a quarter.
-use mathlib.Core.Path.{_≡_, refl, ap, _∙_, subst}
+use mathlib.Core.Path.{_≡_, refl, ap, sym, _∙_, subst}
 use mathlib.Core.List.{List}
 use mathlib.Core.Logic.{_⊎_, inl, inr}
 use Prim.Native.Nat.{ℕ, zero, suc, _+_, _-_, _*_, _<_, _≤_, _/_, _%_, _^_}
@@ -7,14 +7,14 @@ use native.Mathlib.Omega.{arith}
 use lib.Dec.{T}
 use lib.ListN.{length}
 use Rattle.std.proofs.shelf.Tests.{cases-lt}
-use Rattle.standards.specs.Lists.{at, sumTo, allBelow}
-use Rattle.standards.specs.Bytes.{bit, pack}
+use Rattle.standards.specs.Lists.{at, allBelow}
+use Rattle.standards.specs.Bytes.{bit, pack, unpack}
 use Rattle.standards.specs.Ring.{subP, magnitude, norm}
 use Rattle.standards.specs.MlKemParts.{compress, decompress, compressP}
 use Rattle.standards.specs.MlKem.{mu}
-use Rattle.algebra.proofs.Tables.{length-table, at-table, table-same}
+use Rattle.algebra.proofs.Tables.{length-table, at-table, is-table}
 use Rattle.algebra.proofs.Norms.{magnitude-cases, norm-at}
-use Rattle.algebra.proofs.Packing.{pack-unpack}
+use Rattle.algebra.proofs.Packing.{pack-unpack, unpack-bit}
 
 magnitude-within : (q y n : ℕ) → magnitude q y < n → (y < n) ⊎ (q < y + n)
 magnitude-within q y n h = elim (magnitude-cases q y) [ inl c ↦ inl (omega arith) | inr c ↦ inr (omega arith) ]
@@ -52,13 +52,9 @@ read-back x (suc zero) l s h = bit-one x l (magnitude-within 3329 ((x + 1664) % 
 read-back x (suc (suc b)) l s h = absurd (omega arith)
 
 -- ---- the whole message
-one-bit : (m : List ℕ) (i : ℕ) → bit m i ≡ sumTo 1 (λ j. bit m (i * 1 + j) * 2 ^ j)
-unfolding sumTo
-one-bit m i = ap (bit m) {x = i} {y = i * 1 + 0} (omega arith) ∙ omega arith
-
 pub message-back : (f m : List ℕ) → ((i : ℕ) → i < 256 → at f i < 3329) → length m ≡ 32 → T (allBelow 256 m) → 4 * norm 3329 (subP 3329 f (mu m)) < 3328 → pack 1 (compressP 1 f) ≡ m
 message-back f m small l b noiseBelowQuarter =
-    ap (pack 1) (table-same 256 (λ i. compress 1 (at f i)) (λ i. sumTo 1 (λ j. bit m (i * 1 + j) * 2 ^ j)) (λ i h. each i h ∙ one-bit m i)) ∙ pack-unpack 1 256 32 m (omega arith) refl l b
+    ap (pack 1) (sym (is-table 256 (λ i. compress 1 (at f i)) (unpack 1 256 m) (length-table 256 _) (λ i h. unpack-bit 256 m i h ∙ sym (each i h)))) ∙ pack-unpack 1 256 32 m (omega arith) refl l b
   where
     place : (i : ℕ) → i < 256 → at (subP 3329 f (mu m)) i ≡ (at f i + (3329 - decompress 1 (bit m i) % 3329)) % 3329
     place i h = at-table 256 _ i h ∙ ap (λ x. (at f i + (3329 - x % 3329)) % 3329) (at-table 256 (λ i. decompress 1 (bit m i)) i h)
