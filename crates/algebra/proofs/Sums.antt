@@ -15,6 +15,11 @@ sum-same (suc n) f g h = omega (arith, h n (omega arith), sum-same n f g (λ j l
 pub sum-to : (f : ℕ → ℕ) {m n : ℕ} → m ≡ n → sumTo m f ≡ sumTo n f
 sum-to f e = ap (λ k. sumTo k f) e
 
+-- one part more
+pub sum-more : (n : ℕ) (f : ℕ → ℕ) → sumTo (n + 1) f ≡ sumTo n f + f n
+unfolding sumTo
+sum-more n f = sum-to f {m = n + 1} {n = suc n} (omega arith) ∙ omega arith
+
 pub sum-zero : (n : ℕ) → sumTo n (λ j. 0) ≡ 0
 unfolding sumTo
 sum-zero zero = refl

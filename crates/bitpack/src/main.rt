@@ -44,7 +44,7 @@ impl fmt::Display for Problem as ProblemDisplay {
         match self {
             Problem::Usage => f.write_str(USAGE),
             Problem::KemWidth => f.write_str(
-                "the width of ML-KEM's numbers is 1, 4, 5, 10, 11 or 12",
+                "the width of ML-KEM's numbers is 1, 4, 5, 6, 10, 11 or 12",
             ),
             Problem::DsaWidth => f.write_str(
                 "the width of ML-DSA's numbers is 3, 4, 6, 10, 13, 18 or 20",
@@ -101,6 +101,7 @@ fn kem_width(word: Option<&str>) -> Result<KemWidth, Problem> {
         1 => Ok(KemWidth { d: 1 }),
         4 => Ok(KemWidth { d: 4 }),
         5 => Ok(KemWidth { d: 5 }),
+        6 => Ok(KemWidth { d: 6 }),
         10 => Ok(KemWidth { d: 10 }),
         11 => Ok(KemWidth { d: 11 }),
         12 => Ok(KemWidth { d: 12 }),

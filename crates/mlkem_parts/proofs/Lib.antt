@@ -1,1 +1,3 @@
 mod Numbers
+mod Groups
+mod SmallNumbers

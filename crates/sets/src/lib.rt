@@ -12,9 +12,27 @@ use types::Refusal;
 
 // ML-KEM-512, -768 and -1024.
 const KEM_SETS: [KemSet; 3] = [
-    KemSet { k: 2, eta1: 3, eta2: 2, du: 10, dv: 4 },
-    KemSet { k: 3, eta1: 2, eta2: 2, du: 10, dv: 4 },
-    KemSet { k: 4, eta1: 2, eta2: 2, du: 11, dv: 5 },
+    KemSet {
+        k: 2,
+        eta1: 3,
+        eta2: 2,
+        du: 10,
+        dv: 4,
+    },
+    KemSet {
+        k: 3,
+        eta1: 2,
+        eta2: 2,
+        du: 10,
+        dv: 4,
+    },
+    KemSet {
+        k: 4,
+        eta1: 2,
+        eta2: 2,
+        du: 11,
+        dv: 5,
+    },
 ];
 
 // The set of ML-KEM with a number from 1 to 3.

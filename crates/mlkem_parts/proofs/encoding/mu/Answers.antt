@@ -16,4 +16,5 @@ returns c =
     let m = c .args .m .now in
     record {
       value = c .decompress .ensures .value ∙ (ap (decompressP 1) (c .unpack-u16 .ensures) ∙ table-same 256 _ (λ i. decompress 1 (bit m i)) (λ i h. ap (decompress 1) (unpack-bit 256 m i h)));
-      below = c .decompress .ensures .below }
+      below = c .decompress .ensures .below;
+    }
