@@ -8,6 +8,8 @@ pub mod Bits
 pub mod Windows
 pub mod Streams
 pub mod Parts
+pub mod RowArrays
+pub mod PolySums
 pub mod Draws
 pub mod Packing
 pub mod Residues

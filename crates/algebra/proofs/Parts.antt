@@ -1,11 +1,12 @@
 -- Parts of a list: read as a table, written number by number, and filled one after the other until the whole is there.
-use mathlib.Core.Path.{_≡_, refl, ap, sym, _∙_}
+use mathlib.Core.Path.{_≡_, refl, ap, ap₂, sym, _∙_}
 use mathlib.Core.List.{List, [], _∷_, _++_, append-assoc}
 use Prim.Native.Nat.{ℕ, _+_, _-_, _*_, _<_, _≤_}
 use native.Mathlib.Omega.{arith}
 use lib.ListN.{length, take, drop, set, length-set, length-drop, length-append, take-append-drop}
 use lib.Seq.{take-add, length-take-le}
-use Rattle.std.proofs.shelf.Lists.{getD-take, getD-drop, take-at, take-all, take-more, drop-more, set-at, set-append-right}
+use Rattle.std.proofs.shelf.Lists.{getD-take, getD-drop, take-at, take-all, take-more, drop-at, drop-all, drop-drop, drop-more, set-at, set-append-right, append-nil}
+use borrow.Rule.Slice.PartMut.{putMid}
 use Rattle.standards.specs.Lists.{table, at}
 use Rattle.algebra.proofs.Tables.{is-table}
 
@@ -56,3 +57,44 @@ fill-next w g xs ys rest goal l room front next =
 -- all parts are there
 pub filled : (n : ℕ) (xs goal : List ℕ) → length xs ≡ n → length goal ≡ n → take n xs ≡ take n goal → xs ≡ goal
 filled n xs goal a b e = sym (take-all n xs (omega arith)) ∙ (e ∙ take-all n goal (omega arith))
+
+-- ---- parts as the code lends them
+pub part-is : (xs : List ℕ) (a n : ℕ) → take (a + n - a) (drop a xs) ≡ take n (drop a xs)
+part-is xs a n = ap (λ m. take m (drop a xs)) {x = a + n - a} {y = n} (omega arith)
+
+-- the last n
+pub part-rest : (xs : List ℕ) (a n : ℕ) → length xs ≡ a + n → take (a + n - a) (drop a xs) ≡ drop a xs
+part-rest xs a n l = take-all (a + n - a) (drop a xs) (simp length-drop (omega arith))
+
+-- the first n of some room
+pub room-is : (xs : List ℕ) (n : ℕ) → n ≤ length xs → length (take (n - 0) (drop 0 xs)) ≡ n
+room-is xs n l = ap (λ m. length (take m xs)) {x = n - 0} {y = n} (omega arith) ∙ length-take-le n xs l
+
+-- so far front stands in place of the first a of old; then new takes the next m
+pub put-on : (a m n : ℕ) (front old mid new : List ℕ) → mid ≡ front ++ drop a old → length front ≡ a → a + m ≡ n → putMid a m mid new ≡ (front ++ new) ++ drop n old
+put-on a m n front old mid new is l e =
+    ap (λ x. putMid a m x new) is ∙
+    (ap₂ (λ x y. x ++ (new ++ drop m y)) (take-at front (drop a old) a l) (drop-at front (drop a old) a l) ∙
+    (ap (λ x. front ++ (new ++ x)) (drop-drop m a old ∙ ap (λ x. drop x old) e) ∙ sym (append-assoc front new (drop n old))))
+
+pub put-end : (n : ℕ) (front old whole : List ℕ) → whole ≡ front ++ drop n old → length old ≤ n → whole ≡ front
+put-end n front old whole is l = is ∙ (ap (λ x. front ++ x) (drop-all n old l) ∙ append-nil front)
+
+-- two parts, and four
+pub put-two : (a m0 m1 n : ℕ) (old x0 x1 y0 y1 : List ℕ) → 0 + m0 ≡ a → a + m1 ≡ n → length old ≤ n → length x0 ≡ a → x0 ≡ y0 → x1 ≡ y1 →
+    putMid a m1 (putMid 0 m0 old x0) x1 ≡ y0 ++ y1
+put-two a m0 m1 n old x0 x1 y0 y1 e0 e1 l l0 h0 h1 =
+    put-end n (x0 ++ x1) old _ (put-on a m1 n x0 old (putMid 0 m0 old x0) x1 (put-on 0 m0 a [] old old x0 refl refl e0) l0 e1) l ∙ ap₂ (λ x y. x ++ y) h0 h1
+
+pub put-four : (a b d m0 m1 m2 m3 n : ℕ) (old x0 x1 x2 x3 y0 y1 y2 y3 : List ℕ) → 0 + m0 ≡ a → a + m1 ≡ b → b + m2 ≡ d → d + m3 ≡ n → length old ≤ n →
+    length x0 ≡ a → a + length x1 ≡ b → b + length x2 ≡ d → x0 ≡ y0 → x1 ≡ y1 → x2 ≡ y2 → x3 ≡ y3 →
+    putMid d m3 (putMid b m2 (putMid a m1 (putMid 0 m0 old x0) x1) x2) x3 ≡ y0 ++ (y1 ++ (y2 ++ y3))
+put-four a b d m0 m1 m2 m3 n old x0 x1 x2 x3 y0 y1 y2 y3 e0 e1 e2 e3 l l0 l1 l2 h0 h1 h2 h3 =
+    let w0 = put-on 0 m0 a [] old old x0 refl refl e0 in
+    let w1 = put-on a m1 b x0 old _ x1 w0 l0 e1 in
+    let n1 : length (x0 ++ x1) ≡ b = length-append x0 x1 ∙ omega arith in
+    let w2 = put-on b m2 d (x0 ++ x1) old _ x2 w1 n1 e2 in
+    let n2 : length ((x0 ++ x1) ++ x2) ≡ d = length-append (x0 ++ x1) x2 ∙ omega arith in
+    let w3 = put-on d m3 n ((x0 ++ x1) ++ x2) old _ x3 w2 n2 e3 in
+    put-end n (((x0 ++ x1) ++ x2) ++ x3) old _ w3 l ∙
+    (append-assoc (x0 ++ x1) x2 x3 ∙ (append-assoc x0 x1 (x2 ++ x3) ∙ ap₂ (λ x y. x ++ y) h0 (ap₂ (λ x y. x ++ y) h1 (ap₂ (λ x y. x ++ y) h2 h3))))

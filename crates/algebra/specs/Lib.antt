@@ -1,3 +1,4 @@
 pub mod Modular
 pub mod Layers
 pub mod Draws
+pub mod RowArrays

@@ -21,7 +21,8 @@ use Rattle.algebra.proofs.Norms.{norms-below}
 use Rattle.algebra.proofs.DsaTransform.{dsa-product}
 use Rattle.mldsa_laws.proofs.SmallProducts.{small-product}
 use Rattle.mldsa_laws.proofs.Challenge.{challenge-is}
-use Rattle.mldsa_laws.proofs.CheckEquation.{add-at, sumP-same, checked-is}
+use Rattle.algebra.proofs.PolySums.{sumP-same}
+use Rattle.mldsa_laws.proofs.CheckEquation.{add-at, checked-is}
 use Rattle.mldsa_laws.proofs.BitPacking.{Tiny}
 use Rattle.mldsa_laws.proofs.Sets.{Fit}
 use Rattle.mldsa_laws.proofs.HintRecovers.{heart}
@@ -54,11 +55,11 @@ module _ (h : Hashes) (fair : Fair h) (p : DsaSet) (fits : Fit p) (sk pk u r : L
   w'-is : (i : ℕ) → w'-row i ≡ nttInv (subP 8380417 (sumP 8380417 (p .l) (λ j. multiplyNTT (expandA h (skRho sk) i j) (ntt (z-row h p sk u r kappa j)))) (multiplyNTT (cn-of h p sk u r kappa) (ntt (table 256 (λ n. (8192 * at (pkT1 pk i) n) % 8380417)))))
   w'-is i =
       ap (λ x. nttInv (subP 8380417 x (multiplyNTT (ntt (sampleInBall h p (take (p .lambda / 4) S))) (ntt (table 256 (λ n. (8192 * at (pkT1 pk i) n) % 8380417))))))
-      (sumP-same (p .l) _ _ (λ j lj. ap₂ multiplyNTT (ap (λ ρ. expandA h ρ i j) same-rho) (row-at (p .l) (λ i. ntt (zOf p S i)) j lj ∙ ap ntt (z-back h p sk u r kappa good fits j lj)))) ∙
+      (sumP-same 8380417 (p .l) _ _ (λ j lj. ap₂ multiplyNTT (ap (λ ρ. expandA h ρ i j) same-rho) (row-at (p .l) (λ i. ntt (zOf p S i)) j lj ∙ ap ntt (z-back h p sk u r kappa good fits j lj)))) ∙
       ap (λ c. nttInv (subP 8380417 (sumP 8380417 (p .l) (λ j. multiplyNTT (expandA h (skRho sk) i j) (ntt (z-row h p sk u r kappa j)))) (multiplyNTT (ntt (sampleInBall h p c)) (ntt (table 256 (λ n. (8192 * at (pkT1 pk i) n) % 8380417)))))) (c-back h p sk u r kappa)
 
   w-is : (i : ℕ) → i < p .k → rowAt (w-of h p sk u r kappa) i ≡ nttInv (sumP 8380417 (p .l) (λ j. multiplyNTT (expandA h (skRho sk) i j) (ntt (rowAt (y-of h p sk u r kappa) j))))
-  w-is i l = row-at (p .k) _ i l ∙ ap nttInv (sumP-same (p .l) _ _ (λ j lj. ap (multiplyNTT (expandA h (skRho sk) i j)) (row-at (p .l) (λ i. ntt (rowAt (y-of h p sk u r kappa) i)) j lj)))
+  w-is i l = row-at (p .k) _ i l ∙ ap nttInv (sumP-same 8380417 (p .l) _ _ (λ j lj. ap (multiplyNTT (expandA h (skRho sk) i j)) (row-at (p .l) (λ i. ntt (rowAt (y-of h p sk u r kappa) i)) j lj)))
 
   checked : (i n : ℕ) → i < p .k → n < 256 → Same 8380417 (at (w'-row i) n + at (cs-row i) n) (at (rowAt (w-of h p sk u r kappa) i) n + at (ct-row h p sk u r kappa i) n)
   checked i n li ln =

@@ -72,11 +72,6 @@ unfolding sumP
 sumP-poly zero f = poly-table (λ i. 0) (λ k. lit< tt)
 sumP-poly (suc n) f = poly-table (λ i. (at (f n) i + at (sumP 8380417 n f) i) % 8380417) (λ k. mod-lt _ (lit< tt))
 
-pub sumP-same : (l : ℕ) (f g : ℕ → List ℕ) → ((j : ℕ) → j < l → f j ≡ g j) → sumP 8380417 l f ≡ sumP 8380417 l g
-unfolding sumP
-sumP-same zero f g h = refl
-sumP-same (suc n) f g h = ap (λ x. addP 8380417 x (sumP 8380417 n f)) (h n (omega arith)) ∙ ap (λ x. addP 8380417 (g n) x) (sumP-same n f g (λ j l. h j (omega arith)))
-
 redone : (f : List ℕ) → Poly 8380417 f → ntt (nttInv f) ≡ f
 redone f h = dsa-ntt-of-inverse f (h .0) (h .1)
 

@@ -17,7 +17,8 @@ use Rattle.standards.specs.MlDsa.{keySeeds, rhoOf, s1Of, s2Of, tOf, pkOf, skOf,
 use Rattle.algebra.proofs.Sums.{sum-same}
 use Rattle.algebra.proofs.Congruence.{Same, _▸_, same-is, same-add}
 use Rattle.algebra.proofs.Tables.{length-table, at-table, table-same, below-table, below-append, below-take, below-drop}
-use Rattle.mldsa_laws.proofs.CheckEquation.{add-at, sumP-same}
+use Rattle.algebra.proofs.PolySums.{sumP-same}
+use Rattle.mldsa_laws.proofs.CheckEquation.{add-at}
 use Rattle.algebra.proofs.Packing.{length-pack, below-pack}
 use Rattle.algebra.proofs.Draws.{draw-all}
 use Rattle.algebra.proofs.Rows.{drop-past, length-joined, piece, below-joined}
@@ -182,4 +183,4 @@ module _ (h : Hashes) (p : DsaSet) (fits : Fit p) (xi : List ℕ) where
       same-add (same-is (at-table 256 (λ m. (8192 * at (pkT1 (pkOf h p xi) i) m) % 8380417) n ln ∙ (ap (λ f. (8192 * at f n) % 8380417) (pk-t1 i li) ∙ ap (λ x. (8192 * x) % 8380417) (at-table 256 (λ m. power2Round1 (at (tOf h p xi i) m)) n ln)))) (same-is (ap (λ f. at f n) (sk-t0 i li) ∙ at-table 256 (λ m. power2Round0 (at (tOf h p xi i) m)) n ln)) ▸
       t-parts (at (tOf h p xi i) n) (t-small i n ln) .2 ▸
       add-at (nttInv (sumP 8380417 (p .l) (λ j. multiplyNTT (expandA h (rhoOf h p xi) i j) (ntt (s1Of h p xi j))))) (s2Of h p xi i) n ln ▸
-      same-add (same-is (ap (λ f. at (nttInv f) n) (sumP-same (p .l) _ _ (λ j lj. ap (multiplyNTT (expandA h (rhoOf h p xi) i j)) (sym (ap ntt (sk-s1 j lj) ∙ ntt-table (s1Of h p xi j))))))) (same-is (sym (ap (λ f. at f n) (sk-s2 i li) ∙ at-table 256 (at (s2Of h p xi i)) n ln)))
+      same-add (same-is (ap (λ f. at (nttInv f) n) (sumP-same 8380417 (p .l) _ _ (λ j lj. ap (multiplyNTT (expandA h (rhoOf h p xi) i j)) (sym (ap ntt (sk-s1 j lj) ∙ ntt-table (s1Of h p xi j))))))) (same-is (sym (ap (λ f. at f n) (sk-s2 i li) ∙ at-table 256 (at (s2Of h p xi i)) n ln)))

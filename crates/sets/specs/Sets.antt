@@ -24,3 +24,16 @@ numberOf Attempts = 6
 abbrev pub verdictOf : {X : Type 0} → Result X Refusal → ℕ
 verdictOf (Ok x) = 0
 verdictOf (Err e) = numberOf e
+
+-- the numbers of a set are within the code's arrays and widths
+pub record KemFits (p : KemSet) : Type 0 where
+  pub some : 0 < p .k
+  pub few : p .k ≤ 4
+  pub eta1-low : 2 ≤ p .eta1
+  pub eta1-high : p .eta1 ≤ 3
+  pub eta2-low : 2 ≤ p .eta2
+  pub eta2-high : p .eta2 ≤ 3
+  pub du-low : 10 ≤ p .du
+  pub du-high : p .du ≤ 11
+  pub dv-low : 4 ≤ p .dv
+  pub dv-high : p .dv ≤ 5

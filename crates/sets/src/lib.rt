@@ -3,7 +3,7 @@ ghost use mathlib.Core.Path.{_≡_};
 ghost use mathlib.Core.Bool.{cond};
 ghost use Rattle.std.specs.Results.{Cases};
 ghost use Rattle.standards.specs.Calls.{isSet, kemOf};
-ghost use Rattle.sets.specs.Sets.{kemNumbers, numberOf, verdictOf};
+ghost use Rattle.sets.specs.Sets.{kemNumbers, KemFits, numberOf, verdictOf};
 
 pub mod types;
 
@@ -38,6 +38,7 @@ const KEM_SETS: [KemSet; 3] = [
 // The set of ML-KEM with a number from 1 to 3.
 pub fn kem_set(n: u8) -> Result<KemSet, Refusal>
     ensures set { λ r. ⌜ Cases r (λ p. kemNumbers p ≡ kemOf n) (λ e. numberOf e ≡ 1) ⌝ }
+    ensures fits { λ r. ⌜ Cases r (λ p. KemFits p) (λ e. numberOf e ≡ 1) ⌝ }
     ensures verdict { λ r. ⌜ verdictOf r ≡ cond (isSet n) 0 1 ⌝ }
 {
     if n == 0 || n > 3 {
