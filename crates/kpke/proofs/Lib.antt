@@ -1,1 +1,3 @@
 pub mod Entries
+mod Texts
+mod SetWidths
