@@ -33,7 +33,8 @@ pub fill-row : (n b : ℕ) (f : ℕ → List ℕ) (v : List (List ℕ)) (i : ℕ
 fill-row n b f v i x h is small w = record {
   long = length-set v i x ∙ w .long;
   are = each-set (λ j y. y ≡ f j) v i x (omega (arith, w .long)) (w .are) is;
-  below = each-set (λ j y. T (allBelow b y)) v i x (omega (arith, w .long)) (w .below) small }
+  below = each-set (λ j y. T (allBelow b y)) v i x (omega (arith, w .long)) (w .below) small;
+}
 
 -- ---- rows of w bytes that are written one after the other
 more-rows : (f : ℕ → List ℕ) (i n : ℕ) → joined (rows f i (suc n)) ≡ joined (rows f i n) ++ f (i + n)

@@ -29,7 +29,13 @@ use ring::kem::sub;
 use sets::types::KemSet;
 
 // The rows of u: column i of the matrix times y, and noise, compressed.
-fn u_rows<H: Hash>(p: KemSet, r: &[u8], a: &[[u16; 256]; 16], y: &[[u16; 256]; 4], u: &mut [[u16; 256]; 4])
+fn u_rows<H: Hash>(
+    p: KemSet,
+    r: &[u8],
+    a: &[[u16; 256]; 16],
+    y: &[[u16; 256]; 4],
+    u: &mut [[u16; 256]; 4],
+)
     requires fits { ⌜ KemFits p ⌝ }
     requires left { ⌜ RowsBelow 3329 (p .k * p .k) (now a) ⌝ }
     requires right { ⌜ RowsBelow 3329 (p .k) (now y) ⌝ }
@@ -48,7 +54,14 @@ fn u_rows<H: Hash>(p: KemSet, r: &[u8], a: &[[u16; 256]; 16], y: &[[u16; 256]; 4
 }
 
 // v: the key's rows times y, noise and the message, compressed.
-fn v_poly<H: Hash>(p: KemSet, r: &[u8], t: &[[u16; 256]; 4], y: &[[u16; 256]; 4], m: &[u8; 32], f: &mut [u16; 256])
+fn v_poly<H: Hash>(
+    p: KemSet,
+    r: &[u8],
+    t: &[[u16; 256]; 4],
+    y: &[[u16; 256]; 4],
+    m: &[u8; 32],
+    f: &mut [u16; 256],
+)
     requires fits { ⌜ KemFits p ⌝ }
     requires left { ⌜ RowsBelow 3329 (p .k) (now t) ⌝ }
     requires right { ⌜ RowsBelow 3329 (p .k) (now y) ⌝ }
@@ -76,7 +89,14 @@ fn write_text(p: KemSet, u: &[[u16; 256]; 4], v: &[u16; 256], text: &mut [u8])
 }
 
 // The ciphertext of m with coins r, with the matrix of the key drawn already.
-pub fn encrypt<H: Hash>(p: KemSet, a: &[[u16; 256]; 16], ek: &[u8], m: &[u8; 32], r: &[u8], text: &mut [u8])
+pub fn encrypt<H: Hash>(
+    p: KemSet,
+    a: &[[u16; 256]; 16],
+    ek: &[u8],
+    m: &[u8; 32],
+    r: &[u8],
+    text: &mut [u8],
+)
     requires fits { ⌜ KemFits p ⌝ }
     requires entries { ⌜ RowsAre (p .k * p .k) (entryAt (H·Hash .hashes) (p .k) (ekRho (kemNumbers p) (now ek))) (now a) ⌝ }
     requires below { ⌜ RowsBelow 3329 (p .k * p .k) (now a) ⌝ }

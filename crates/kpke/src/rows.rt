@@ -48,7 +48,14 @@ pub fn small_rows<H: Hash>(eta: usize, s: &[u8], k: usize, v: &mut [[u16; 256]; 
 }
 
 // The sum over j below k of the products of row first + step * j of a and row j of s: a row of the matrix, a column, or a vector, times s.
-pub fn dot(a: &[[u16; 256]], first: usize, step: usize, s: &[[u16; 256]], k: usize, out: &mut [u16; 256])
+pub fn dot(
+    a: &[[u16; 256]],
+    first: usize,
+    step: usize,
+    s: &[[u16; 256]],
+    k: usize,
+    out: &mut [u16; 256],
+)
     requires within { ⌜ ((j : ℕ) → j < k → first + step * j < length (now a)) ⌝ ∗ ⌜ k ≤ length (now s) ⌝ }
     requires left { ⌜ ((j : ℕ) → j < k → T (allBelow 3329 (rowAt (now a) (first + step * j)))) ⌝ }
     requires right { ⌜ RowsBelow 3329 k (now s) ⌝ }

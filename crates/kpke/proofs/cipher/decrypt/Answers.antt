@@ -23,7 +23,7 @@ pub returns : need.returns
 returns c =
     let p = c .args .p in
     let v : c .decompress .last .f ≡ vIn (kemNumbers p) (c .args .c .now) =
-        c .decompress .ensures .value ∙ ap (decompressP (p .dv)) (c .unpack-u16 .ensures ∙ ap (unpack (p .dv) 256) (part-rest (c .args .c .now) (32 * p .du * p .k) (32 * p .dv) (c .pre .long))) in
+    c .decompress .ensures .value ∙ ap (decompressP (p .dv)) (c .unpack-u16 .ensures ∙ ap (unpack (p .dv) 256) (part-rest (c .args .c .now) (32 * p .du * p .k) (32 * p .dv) (c .pre .long))) in
     c .pack-u16 .ensures ∙ ap (pack 1) (c .compress .ensures .value ∙ ap (compressP 1) (c .sub .ensures .value ∙
     w-is (kemNumbers p) (c .args .dk .now) (c .args .c .now) (c .decode-rows .last .v) (c .text-rows .last .v) _ _ (c .decode-rows .ensures .value) (c .text-rows .ensures .value) v
-        (c .ntt-inverse .ensures .value ∙ ap nttInv (c .dot .ensures .value))))
+    (c .ntt-inverse .ensures .value ∙ ap nttInv (c .dot .ensures .value))))

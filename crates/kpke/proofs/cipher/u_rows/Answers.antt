@@ -18,7 +18,8 @@ dot-requires g c κs =
     record {
       within = (λ j h. omega (arith, down k i j (omega arith) h, square k (c .pre .fits .few)), omega (arith, c .pre .fits .few));
       left = λ j h. c .pre .left (i + k * j) (down k i j (omega arith) h);
-      right = c .pre .right }
+      right = c .pre .right;
+    }
 
 pub loop-i-again : need.loop-i-again
 loop-i-again g c =

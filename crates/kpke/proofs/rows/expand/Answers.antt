@@ -45,4 +45,5 @@ returns g c =
     record {
       drawn = all;
       value = λ t j h. c .loop-n .inv .2 j (omega arith) (full-at kk f (sym all ∙ is-true (c .loop-n .full) t) j h) .0;
-      below = λ t j h. c .loop-n .inv .2 j (omega arith) (full-at kk f (sym all ∙ is-true (c .loop-n .full) t) j h) .1 }
+      below = λ t j h. c .loop-n .inv .2 j (omega arith) (full-at kk f (sym all ∙ is-true (c .loop-n .full) t) j h) .1;
+    }

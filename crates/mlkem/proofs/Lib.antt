@@ -1,0 +1,3 @@
+mod KeyRows
+mod Opening
+mod Verdicts
