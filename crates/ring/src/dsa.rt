@@ -5,6 +5,7 @@ ghost use Rattle.standards.specs.Lists.{allBelow};
 ghost use Rattle.standards.specs.MlDsaParts.{ntt, nttInv, multiplyNTT};
 ghost use Rattle.standards.specs.Ring.{addP, subP};
 
+pub mod poly;
 pub mod tables;
 
 use crate::number::DsaNumber;

@@ -6,6 +6,7 @@ ghost use Rattle.standards.specs.Lists.{at, allBelow};
 ghost use Rattle.standards.specs.MlKemParts.{ntt, nttInv, multiplyNTTs, multiplyNTTsAt};
 ghost use Rattle.standards.specs.Ring.{addP, subP};
 
+pub mod poly;
 pub mod tables;
 
 use crate::number::KemNumber;
