@@ -6,7 +6,7 @@ ghost use Rattle.standards.specs.MlDsaParts.{ntt, nttInv, multiplyNTT};
 ghost use Rattle.standards.specs.Ring.{addP, subP};
 
 pub mod poly;
-pub mod tables;
+mod tables;
 
 use crate::number::DsaNumber;
 use crate::pointwise;

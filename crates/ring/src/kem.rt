@@ -7,7 +7,7 @@ ghost use Rattle.standards.specs.MlKemParts.{ntt, nttInv, multiplyNTTs, multipl
 ghost use Rattle.standards.specs.Ring.{addP, subP};
 
 pub mod poly;
-pub mod tables;
+mod tables;
 
 use crate::number::KemNumber;
 use crate::number::Modular;
