@@ -1,6 +1,6 @@
 -- A block of a layer, butterfly by butterfly.
-use mathlib.Core.Path.{_≡_, refl, ap, ap₂, sym, _∙_, subst}
-use mathlib.Core.Bool.{Bool, true, false, cond, _&&_}
+use mathlib.Core.Path.{_≡_, refl, ap, ap₂, sym, _∙_}
+use mathlib.Core.Bool.{Bool, _&&_}
 use mathlib.Core.List.{List}
 use mathlib.Core.Logic.{_⊎_, inl, inr, _≢_}
 use Prim.Native.Nat.{ℕ, zero, suc, _+_, _-_, _*_, _<_, _≤_, _/_, _%_, _^_}
@@ -8,14 +8,14 @@ use native.Mathlib.Omega.{arith}
 use native.Mathlib.Nat.{mul-le-mul-left, mod-lt, pow-succ'}
 use lib.Pow.{pow-mono}
 use lib.Dec.{ltb, leb, eqb, T, eqb→eq}
-use lib.ListN.{length, set, getD}
-use Rattle.std.proofs.shelf.Lists.{ext-getD, length-set, getD-set-same, getD-set-other, getD-past}
-use Rattle.std.proofs.shelf.Tests.{cases-eq, cases-lt, cond-both}
-use Rattle.standards.specs.Lists.{table, at, allBelow}
+use lib.ListN.{length, set}
+use Rattle.std.proofs.shelf.Lists.{length-set, getD-set-same, getD-set-other}
+use Rattle.std.proofs.shelf.Tests.{cases-eq, cond-both}
+use Rattle.standards.specs.Lists.{at, allBelow}
 use Rattle.standards.specs.Ring.{Poly}
 use Rattle.algebra.specs.Layers.{ctLow, ctHigh, blockAt, gsLow, gsHigh, blockTo, layerTo, forwardLayers, inverseLayers, Factors}
 use Rattle.algebra.proofs.Tests.{both, allTo, all-to}
-use Rattle.algebra.proofs.Tables.{length-table, at-table, is-table, at-below, at-small, below-table}
+use Rattle.algebra.proofs.Tables.{length-table, at-table, is-table, at-small, below-table}
 
 module _ (g h : ℕ → ℕ → ℕ) (start len : ℕ) where
   pub blockAt-low : (d : ℕ) (f : List ℕ) (n : ℕ) → start ≤ n → n < start + d → blockAt g h start len d f n ≡ g (at f n) (at f (n + len))

@@ -1,24 +1,22 @@
 -- The layers, one after the other, come to the transform.
 use mathlib.Core.Path.{_≡_, refl, ap, ap₂, sym, _∙_, subst}
 use mathlib.Core.List.{List}
-use mathlib.Core.Logic.{_⊎_, inl, inr, _≢_}
+use mathlib.Core.Logic.{inl, inr}
 use Prim.Native.Nat.{ℕ, zero, suc, _+_, _-_, _*_, _<_, _≤_, _/_, _%_, _^_}
 use native.Mathlib.Omega.{arith}
-use native.Mathlib.Nat.{mul-le-mul-left, mul-comm, pow-succ', div-add-mod, mod-lt}
+use native.Mathlib.Nat.{mul-le-mul-left, pow-succ'}
 use mathlib.Core.Bool.{Bool}
 use lib.Dec.{T, eqb, eqb→eq}
-use lib.ListN.{length}
 use Rattle.std.proofs.shelf.Tests.{cases-eq}
-use Rattle.std.proofs.shelf.Bits.{shl-shr, pow-pos, div-mul-add}
+use Rattle.std.proofs.shelf.Bits.{shl-shr, pow-pos}
 use Rattle.standards.specs.Lists.{at}
 use Rattle.standards.specs.Bytes.{bitRev}
-use Rattle.standards.specs.Ring.{power}
 use Rattle.algebra.specs.Modular.{mulM}
-use Rattle.algebra.specs.Layers.{ctLow, ctHigh, blockAt, blockTo, layerTo, forwardLayers, zetaTable}
+use Rattle.algebra.specs.Layers.{ctLow, ctHigh, blockTo, layerTo, forwardLayers, zetaTable}
 use Rattle.algebra.proofs.Tests.{allTo, all-to}
 use Rattle.algebra.proofs.Tables.{at-table}
 use Rattle.algebra.proofs.Blocks.{blockAt-low, blockAt-high, blockAt-before, blockAt-after, block-fits}
-use Rattle.algebra.proofs.Congruence.{Same, _▸_, back-of, same-is, same-by, same-mod, same-add, same-scale, same-mul, same-cancel, sub-add, power-is}
+use Rattle.algebra.proofs.Congruence.{Same, _▸_, back-of, same-is, same-mod, same-add, same-scale, same-mul, same-cancel, sub-add, power-is}
 use Rattle.algebra.proofs.Residues.{root, residue, residue-none, residue-step, root-minus, two-pow}
 
 -- what a layer leaves at each place

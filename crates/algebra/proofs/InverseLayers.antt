@@ -1,25 +1,24 @@
 -- The layers of the way back, one after the other, come to the inverse.
-use mathlib.Core.Path.{_≡_, refl, ap, ap₂, sym, _∙_, subst}
+use mathlib.Core.Path.{_≡_, refl, ap, sym, _∙_, subst}
 use mathlib.Core.Bool.{Bool}
 use mathlib.Core.List.{List}
-use mathlib.Core.Logic.{_⊎_, inl, inr}
-use Prim.Native.Nat.{ℕ, zero, suc, _+_, _-_, _*_, _<_, _≤_, _/_, _%_, _^_}
+use mathlib.Core.Logic.{inl, inr}
+use Prim.Native.Nat.{ℕ, zero, suc, _+_, _-_, _*_, _<_, _≤_, _/_, _^_}
 use native.Mathlib.Omega.{arith}
-use native.Mathlib.Nat.{mul-le-mul-left, mul-comm, pow-succ', pow-zero, mod-lt}
+use native.Mathlib.Nat.{mul-le-mul-left, pow-succ', pow-zero}
 use lib.Dec.{T, eqb, eqb→eq}
 use lib.Pow.{pow-add}
 use Rattle.std.proofs.shelf.Tests.{cases-lt}
 use Rattle.std.proofs.shelf.Bits.{shl-shr, pow-pos, mul-add-lt}
-use Rattle.standards.specs.Lists.{at, allBelow}
+use Rattle.standards.specs.Lists.{at}
 use Rattle.standards.specs.Bytes.{bitRev}
-use Rattle.standards.specs.Ring.{power}
 use Rattle.algebra.specs.Modular.{subM}
 use Rattle.algebra.specs.Layers.{gsLow, gsHigh, layerTo, inverseLayers, zetaTable}
 use Rattle.algebra.proofs.Tests.{allTo, all-to}
-use Rattle.algebra.proofs.Tables.{at-table, at-small}
-use Rattle.algebra.proofs.Blocks.{block-fits, block-below}
+use Rattle.algebra.proofs.Tables.{at-table}
+use Rattle.algebra.proofs.Blocks.{block-fits}
 use Rattle.algebra.proofs.ForwardLayers.{done}
-use Rattle.algebra.proofs.Congruence.{Same, _▸_, back-of, same-is, same-by, same-mod, same-add, same-scale, same-mul, same-cancel, sub-add, power-is}
+use Rattle.algebra.proofs.Congruence.{Same, _▸_, back-of, same-is, same-mod, same-add, same-scale, same-mul, same-cancel, sub-add, power-is}
 use Rattle.algebra.proofs.Residues.{root, two-pow}
 use Rattle.algebra.proofs.Inverse.{interpolant, leaves-split, leaves-one, interpolant-diff}
 

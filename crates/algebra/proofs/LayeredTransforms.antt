@@ -1,18 +1,17 @@
 -- The layers, with the tables of powers, are the transforms of the standards.
-use mathlib.Core.Path.{_≡_, refl, ap, ap₂, sym, _∙_, subst}
+use mathlib.Core.Path.{_≡_, refl, ap}
 use mathlib.Core.List.{List}
-use Prim.Native.Nat.{ℕ, zero, suc, _+_, _-_, _*_, _<_, _≤_, _/_, _%_, _^_}
+use Prim.Native.Nat.{ℕ, _+_, _-_, _*_, _<_, _/_, _%_}
 use native.Mathlib.Omega.{arith}
-use lib.Dec.{T, lit<, lit≤}
-use lib.ListN.{length}
-use Rattle.standards.specs.Lists.{at, allBelow}
+use lib.Dec.{T, lit<}
+use Rattle.standards.specs.Lists.{at}
 use Rattle.standards.specs.Bytes.{bitRev}
 use Rattle.standards.specs.Ring.{Poly}
 use Rattle.standards.specs.MlKemParts.{ntt as kemNtt, nttInv as kemNttInv}
 use Rattle.standards.specs.MlDsaParts.{ntt as dsaNtt, nttInv as dsaNttInv}
 use Rattle.algebra.specs.Layers.{forwardLayers, inverseLayers, zetaTable}
 use Rattle.algebra.specs.Modular.{scaled}
-use Rattle.algebra.proofs.Congruence.{Same, _▸_, back-of, same-is, same-mod, same-scale}
+use Rattle.algebra.proofs.Congruence.{_▸_, back-of, same-is, same-mod, same-scale}
 use Rattle.algebra.proofs.Transform.{forward-is-residue, inverse-is-interpolant, inverses}
 use Rattle.algebra.proofs.DsaTransform.{as-forward, as-inverse}
 use Rattle.algebra.proofs.Tests.{allTo}

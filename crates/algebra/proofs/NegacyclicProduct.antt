@@ -2,12 +2,12 @@
 use mathlib.Core.Path.{_≡_, refl, ap, sym, _∙_}
 use mathlib.Core.Bool.{Bool, true, false, cond}
 use Prim.Native.Nat.{ℕ, _+_, _-_, _*_, _<_, _/_, _%_}
-use native.Mathlib.Nat.{mul-comm, mul-assoc, div-add-mod, mod-lt}
+use native.Mathlib.Nat.{mul-assoc, div-add-mod, mod-lt}
 use native.Mathlib.Omega.{arith}
 use lib.Dec.{leb}
 use Rattle.std.proofs.shelf.Tests.{le-leb, lt-leb, cond-true, cond-false}
 use Rattle.standards.specs.Lists.{sumTo}
-use Rattle.algebra.proofs.Sums.{sum-same, sum-to, sum-mul, sum-split, sum-swap}
+use Rattle.algebra.proofs.Sums.{sum-same, sum-to, sum-mul, sum-mul-right, sum-split, sum-swap}
 use Rattle.algebra.proofs.Congruence.{Same, _▸_, back-of, same-is, same-by, same-mod, same-add, same-scale, same-mul, same-sum, same-cancel}
 
 -- x^i times g, at n
@@ -17,9 +17,6 @@ shifted q N g i n = cond (leb i n) (g (n - i)) (q - g (n + N - i) % q)
 pub cond-times : (b : Bool) (x y z : ℕ) → cond b (x * y) (x * z) ≡ x * cond b y z
 cond-times true x y z = refl
 cond-times false x y z = refl
-
-pub sum-mul-right : (n c : ℕ) (f : ℕ → ℕ) → sumTo n (λ j. f j * c) ≡ sumTo n f * c
-sum-mul-right n c f = sum-same n _ (λ j. c * f j) (λ j _. mul-comm (f j) c) ∙ (sum-mul n c f ∙ mul-comm c (sumTo n f))
 
 module _ (q N : ℕ) (pos : 0 < q) (c : ℕ → ℕ) (turns : (n : ℕ) → Same q (c (n + N) + c n) 0) where
   opposite : (y n : ℕ) → Same q ((q - y % q) * c n) (y * c (n + N))

@@ -1,6 +1,7 @@
 -- Sums over the first n indices.
 use mathlib.Core.Path.{_≡_, refl, ap, sym, _∙_}
 use Prim.Native.Nat.{ℕ, zero, suc, _+_, _-_, _*_, _<_}
+use native.Mathlib.Nat.{mul-comm}
 use native.Mathlib.Omega.{arith}
 use mathlib.Core.Logic.{inl, inr}
 use Rattle.std.proofs.shelf.Tests.{cases-eq}
@@ -43,6 +44,9 @@ pub sum-mul : (n c : ℕ) (f : ℕ → ℕ) → sumTo n (λ j. c * f j) ≡ c * 
 unfolding sumTo
 sum-mul zero c f = omega arith
 sum-mul (suc n) c f = omega (arith, sum-mul n c f)
+
+pub sum-mul-right : (n c : ℕ) (f : ℕ → ℕ) → sumTo n (λ j. f j * c) ≡ sumTo n f * c
+sum-mul-right n c f = sum-same n _ (λ j. c * f j) (λ j _. mul-comm (f j) c) ∙ (sum-mul n c f ∙ mul-comm c (sumTo n f))
 
 pub sum-split : (a b : ℕ) (f : ℕ → ℕ) → sumTo (a + b) f ≡ sumTo a f + sumTo b (λ j. f (a + j))
 unfolding sumTo

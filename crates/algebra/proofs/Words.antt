@@ -1,5 +1,5 @@
 -- Loops in place over rows of machine words, where v x is the number that the word x stands for.
-use mathlib.Core.Path.{_≡_, refl, ap, ap₂, sym, _∙_, subst}
+use mathlib.Core.Path.{_≡_, ap, ap₂, sym, _∙_, subst}
 use mathlib.Core.List.{List, map}
 use mathlib.Core.Logic.{inl, inr}
 use Prim.Native.Nat.{ℕ, _+_, _*_, _<_, _≤_}
@@ -19,9 +19,6 @@ pub record Filled (t : ℕ → ℕ) (f : List ℕ) (i : ℕ) (F : List ℕ) : Ty
   pub long : length F ≡ 256
   pub done : (k : ℕ) → k < i → at F k ≡ t k
   pub rest : (k : ℕ) → i ≤ k → at F k ≡ at f k
-
-pub filled-none : (t : ℕ → ℕ) (f : List ℕ) → length f ≡ 256 → Filled t f 0 f
-filled-none t f h = record { long = h; done = λ k l. absurd (omega arith); rest = λ k _. refl }
 
 pub filled-below : (q : ℕ) (t : ℕ → ℕ) (f : List ℕ) (i : ℕ) (F : List ℕ) → 0 < q → T (allBelow q f) → Filled t f i F → (k : ℕ) → i ≤ k → at F k < q
 filled-below q t f i F pos b w k h = rw (w .rest k h) (at-small q f pos b k)
@@ -83,12 +80,11 @@ module _ {A : Type 0} (v : A → ℕ) where
     long : length F ≡ 256
     long = sym (length-map F v) ∙ (ap length done ∙ length-table 256 _)
 
-    module _ (q : ℕ) (pos : 0 < q) (poly : Poly q (map v f)) where
-      pub low-below : (a : A) → v (getD F (start + d) a) < q
-      low-below a = rw (read F (start + d) a (omega (arith, long)), block-low g h start len d (map v f) (map v F) done more fits) (at-small q (map v f) pos (poly .1) (start + d))
-
-      pub high-below : (b : A) → v (getD F (start + len + d) b) < q
-      high-below b = rw (read F (start + len + d) b (omega (arith, long)), block-high g h start len d (map v f) (map v F) done more fits) (at-small q (map v f) pos (poly .1) (start + len + d))
+    pub words-below : (q : ℕ) → 0 < q → Poly q (map v f) → (a b : A) → (v (getD F (start + d) a) < q) × (v (getD F (start + len + d) b) < q)
+    words-below q pos poly a b = (
+      rw (read F (start + d) a (omega (arith, long)), block-low g h start len d (map v f) (map v F) done more fits) (at-small q (map v f) pos (poly .1) (start + d)),
+      rw (read F (start + len + d) b (omega (arith, long)), block-high g h start len d (map v f) (map v F) done more fits) (at-small q (map v f) pos (poly .1) (start + len + d)),
+    )
 
     pub words-more : (a b lo hi : A) → v lo ≡ g (v (getD F (start + d) a)) (v (getD F (start + len + d) b)) → v hi ≡ h (v (getD F (start + d) a)) (v (getD F (start + len + d) b)) →
         map v (set (set F (start + len + d) hi) (start + d) lo) ≡ blockTo g h start len (d + 1) (map v f)

@@ -1,7 +1,7 @@
 -- A transform in place, layer by layer, and its inverse. Assumes nothing.
 use mathlib.Core.Bool.{cond, _&&_}
 use mathlib.Core.List.{List}
-use Prim.Native.Nat.{ℕ, zero, suc, _+_, _-_, _*_, _/_, _%_, _^_, _≤_}
+use Prim.Native.Nat.{ℕ, zero, suc, _+_, _-_, _*_, _/_, _^_, _≤_}
 use lib.Dec.{ltb, leb, T}
 use lib.ListN.{length}
 use Rattle.standards.specs.Lists.{table, at, allBelow}

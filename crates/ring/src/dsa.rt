@@ -5,7 +5,8 @@ ghost use Rattle.standards.specs.Lists.{allBelow};
 ghost use Rattle.standards.specs.MlDsaParts.{ntt, nttInv, multiplyNTT};
 ghost use Rattle.standards.specs.Ring.{addP, subP};
 
-pub mod tables;
+pub mod poly;
+mod tables;
 
 use crate::number::DsaNumber;
 use crate::pointwise;

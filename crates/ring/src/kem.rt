@@ -6,7 +6,8 @@ ghost use Rattle.standards.specs.Lists.{at, allBelow};
 ghost use Rattle.standards.specs.MlKemParts.{ntt, nttInv, multiplyNTTs, multiplyNTTsAt};
 ghost use Rattle.standards.specs.Ring.{addP, subP};
 
-pub mod tables;
+pub mod poly;
+mod tables;
 
 use crate::number::KemNumber;
 use crate::number::Modular;

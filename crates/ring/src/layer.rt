@@ -2,7 +2,6 @@
 ghost use mathlib.Core.Path.{_≡_};
 ghost use mathlib.Core.List.{map};
 ghost use Prim.Native.Nat.{_+_, _-_, _*_, _/_, _^_, _<_, _≤_};
-ghost use lib.ListN.{length};
 ghost use Rattle.standards.specs.Lists.{at};
 ghost use Rattle.standards.specs.Ring.{Poly};
 ghost use Rattle.algebra.specs.Layers.{ctLow, ctHigh, gsLow, gsHigh, blockTo, layerTo, Factors};
@@ -24,6 +23,7 @@ fn block<F: Modular>(f: &mut [F; 256], start: usize, len: usize, z: F)
     }
 }
 
+// The same with the butterfly of the inverse.
 fn block_inverse<F: Modular>(f: &mut [F; 256], start: usize, len: usize, z: F)
     requires fits { ⌜ start + 2 * len ≤ 256 ⌝ }
     requires factor { ⌜ value z < q ⌝ }

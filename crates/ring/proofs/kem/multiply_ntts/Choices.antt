@@ -1,4 +1,3 @@
-use mathlib.Core.Path.{_≡_}
 use Prim.Native.Nat.{_*_}
 use Rattle.standards.specs.MlKemParts.{multiplyNTTsAt}
 use Rattle.algebra.proofs.Words.{Filled}

@@ -1,6 +1,6 @@
 use mathlib.Core.Path.{_≡_}
 use mathlib.Core.List.{map}
-use Prim.Native.Nat.{_+_, _-_, _*_, _/_, _^_}
+use Prim.Native.Nat.{_+_, _-_, _/_, _^_}
 use Rattle.standards.specs.Lists.{at}
 use Rattle.algebra.specs.Layers.{ctLow, ctHigh, layerTo}
 use Rattle.ring.proofs.layer.layer.Given as given

@@ -1,6 +1,6 @@
 use mathlib.Core.Path.{_≡_}
 use mathlib.Core.List.{map}
-use Prim.Native.Nat.{_+_, _-_, _*_, _/_, _^_}
+use Prim.Native.Nat.{_-_, _*_, _/_, _^_}
 use Rattle.standards.specs.Lists.{at}
 use Rattle.algebra.specs.Layers.{gsLow, gsHigh, layerTo}
 use Rattle.ring.proofs.layer.layer_inverse.Given as given
