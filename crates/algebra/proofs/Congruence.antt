@@ -1,11 +1,12 @@
 -- Numbers that agree modulo q.
 use mathlib.Core.Path.{_≡_, refl, ap, sym, _∙_}
 use Prim.Native.Nat.{ℕ, zero, suc, _+_, _-_, _*_, _<_, _/_, _%_, _^_}
-use native.Mathlib.Nat.{div-add-mod, add-mul-mod-self-left, mod-mod, pow-suc, pow-zero, mul-comm}
+use native.Mathlib.Nat.{div-add-mod, mod-lt, add-mul-mod-self-left, mod-mod, pow-suc, pow-zero, mul-comm}
 use native.Mathlib.Omega.{arith}
 use lib.Pow.{pow-add}
 use Rattle.standards.specs.Lists.{sumTo}
 use Rattle.standards.specs.Ring.{power}
+use Rattle.algebra.specs.Modular.{subM}
 
 pub record Same (q a b : ℕ) : Type 0 where
   pub is : a % q ≡ b % q
@@ -51,6 +52,10 @@ pub same-sum : {q : ℕ} (n : ℕ) (f g : ℕ → ℕ) → ((j : ℕ) → j < n 
 unfolding sumTo
 same-sum zero f g h = same-is refl
 same-sum (suc n) f g h = same-add (h n (omega arith)) (same-sum n f g (λ j l. h j (omega arith)))
+
+-- a difference and what was taken away
+pub sub-add : (q a b : ℕ) → 0 < q → Same q (subM q a b + b) a
+sub-add q a b p = same-add same-mod (same-is refl) ▸ same-by 0 (b / q + 1) (omega (arith, div-add-mod b q, mod-lt b p))
 
 -- powers
 pub power-is : (q b n : ℕ) → power q b n ≡ (b ^ n) % q

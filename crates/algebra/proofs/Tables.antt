@@ -6,9 +6,10 @@ use Prim.Native.Nat.{ℕ, zero, suc, _+_, _<_, _≤_, _%_}
 use native.Mathlib.Nat.{mod-eq-of-lt}
 use native.Mathlib.Omega.{arith}
 use lib.Dec.{ltb, T, ltb→lt, lt→ltb}
-use lib.ListN.{length, take, drop}
-use Rattle.std.proofs.shelf.Lists.{ext-getD, getD-past}
-use Rattle.std.proofs.shelf.Tests.{cases-lt}
+use lib.ListN.{length, take, drop, set, length-append}
+use lib.Seq.{getD-set-same, getD-set-other}
+use Rattle.std.proofs.shelf.Lists.{ext-getD, getD-past, getD-push, getD-append-left}
+use Rattle.std.proofs.shelf.Tests.{cases-lt, cases-eq}
 use Rattle.standards.specs.Lists.{from, table, at, allBelow}
 use Rattle.algebra.proofs.Tests.{both, from-both}
 use Rattle.algebra.proofs.Congruence.{Same}
@@ -37,8 +38,23 @@ is-table n f xs l h = ext-getD 0 xs (table n f) (l ∙ sym (length-table n f)) (
 pub table-same : (n : ℕ) (f g : ℕ → ℕ) → ((k : ℕ) → k < n → f k ≡ g k) → table n f ≡ table n g
 table-same n f g h = is-table n g (table n f) (length-table n f) (λ k l. at-table n f k l ∙ h k l)
 
+-- one number more, at the end
+pub table-more : (n : ℕ) (f : ℕ → ℕ) → table (n + 1) f ≡ table n f ++ (f n ∷ [])
+table-more n f =
+    sym (is-table (n + 1) f (table n f ++ (f n ∷ [])) (length-append (table n f) (f n ∷ []) ∙ omega (arith, length-table n f)) (λ k h. elim (cases-eq k n) [
+      | inl e ↦ ap (at (table n f ++ (f n ∷ []))) e ∙ (getD-push (table n f) (f n) 0 n (length-table n f) ∙ ap f (sym e))
+      | inr ne ↦ getD-append-left (table n f) (f n ∷ []) 0 k (omega (arith, length-table n f)) ∙ at-table n f k (omega arith)
+    ]))
+
 pub at-noughts : (n k : ℕ) → at (table n (λ i. 0)) k ≡ 0
 at-noughts n k = elim (cases-lt k n) [ inl l ↦ at-table n (λ i. 0) k l | inr l ↦ getD-past (table n (λ i. 0)) k 0 (rw (length-table n (λ i. 0)) l) ]
+
+-- one number more, at the next place
+pub put-next : (f : ℕ → ℕ) (xs : List ℕ) (i : ℕ) → i < length xs → ((k : ℕ) → k < i → at xs k ≡ f k) → (k : ℕ) → k < i + 1 → at (set xs i (f i)) k ≡ f k
+put-next f xs i l h k lt = elim (cases-eq k i) [
+  | inl e ↦ ap (at (set xs i (f i))) e ∙ (getD-set-same xs i (f i) 0 l ∙ ap f (sym e))
+  | inr ne ↦ getD-set-other xs i k (f i) 0 ne ∙ h k (omega arith)
+]
 
 -- ---- all below a bound, by place
 pub at-below : (q : ℕ) (xs : List ℕ) (k : ℕ) → T (allBelow q xs) → k < length xs → at xs k < q
@@ -84,3 +100,6 @@ below-drop q (suc n) (x ∷ xs) a = below-drop q n xs (both (ltb x q) (allBelow 
 pub is-remainders : (q n : ℕ) (f : ℕ → ℕ) (g : List ℕ) → length g ≡ n → T (allBelow q g) → ((k : ℕ) → k < n → Same q (f k) (at g k)) → table n (λ k. f k % q) ≡ g
 is-remainders q n f g l b h =
     sym (is-table n (λ k. f k % q) g l (λ k s. sym (mod-eq-of-lt (at-below q g k b (omega arith))) ∙ sym (h k s .is)))
+
+pub at-small : (q : ℕ) (f : List ℕ) → 0 < q → T (allBelow q f) → (n : ℕ) → at f n < q
+at-small q f p h n = elim (cases-lt n (length f)) [ inl l ↦ at-below q f n h l | inr l ↦ rw (getD-past f n 0 l) p ]

@@ -1,9 +1,12 @@
 -- Tests that pass, as facts.
-use mathlib.Core.Path.{_≡_, refl, subst}
+use mathlib.Core.Path.{_≡_, refl, sym, subst}
+use mathlib.Core.Logic.{inl, inr}
 use mathlib.Core.Bool.{Bool, true, false, cond, _&&_, not}
 use mathlib.Core.List.{List, [], _∷_}
-use Prim.Native.Nat.{ℕ}
+use Prim.Native.Nat.{ℕ, zero, suc, _<_}
+use native.Mathlib.Omega.{arith}
 use lib.Dec.{T, eqb, eqb-refl}
+use Rattle.std.proofs.shelf.Tests.{cases-eq}
 use Rattle.standards.specs.Lists.{same}
 
 pub both : (x y : Bool) → T (x && y) → T x × T y
@@ -37,3 +40,13 @@ pick false x y h = absurd h
 pub passes : (b : Bool) (x y : ℕ) → T b → cond (not b) x y ≡ y
 passes true x y h = refl
 passes false x y h = absurd h
+
+-- a finite fact by a computed test: all-to n p tt k h
+unfoldable pub allTo : ℕ → (ℕ → Bool) → Bool
+allTo zero p = true
+allTo (suc n) p = p n && allTo n p
+
+pub all-to : (n : ℕ) (p : ℕ → Bool) → T (allTo n p) → (k : ℕ) → k < n → T (p k)
+unfolding allTo
+all-to zero p h k l = absurd (omega arith)
+all-to (suc n) p h k l = elim (cases-eq k n) [ inl e ↦ subst (λ x. T (p x)) (sym e) (both (p n) (allTo n p) h .0) | inr ne ↦ all-to n p (both (p n) (allTo n p) h .1) k (omega arith) ]

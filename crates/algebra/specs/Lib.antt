@@ -1,0 +1,2 @@
+pub mod Modular
+pub mod Layers

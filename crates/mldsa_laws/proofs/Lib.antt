@@ -1,0 +1,17 @@
+pub mod Decompose
+pub mod RoundingLemmas
+pub mod HintRecovers
+pub mod SmallProducts
+pub mod Challenge
+pub mod CheckEquation
+pub mod BitPacking
+pub mod HintCounts
+pub mod HintBytes
+pub mod Sets
+pub mod Keys
+pub mod AttemptParts
+pub mod AttemptPasses
+pub mod SignaturesPass
+pub mod Places
+pub mod HintRepacking
+pub mod OneSpelling
