@@ -141,10 +141,10 @@ pub trait Hash {
     fn shake256(a: &[u8], b: &[u8]) -> Self::Reader256
         ensures { λ r. ⌜ Reader256·Reader .rest r ≡ hashes .shake256 (now (a .entry) ++ now (b .entry)) ⌝ }
     {
-        let mut xof = Self::open_shake256();
-        xof.absorb(a);
-        xof.absorb(b);
-        xof.finish()
+        let mut shake = Self::open_shake256();
+        shake.absorb(a);
+        shake.absorb(b);
+        shake.finish()
     }
 
     fn shake256_into(a: &[u8], b: &[u8], out: &mut [u8])
