@@ -19,9 +19,9 @@ hexOf (b ∷ bs) = digitOf (b / 16) ∷ digitOf (b % 16) ∷ hexOf bs
 abbrev pub valueOf : ℕ → ℕ
 valueOf c = cond (leb 48 c && leb c 57) (c - 48) (cond (leb 97 c && leb c 102) (c - 87) (cond (leb 65 c && leb c 70) (c - 55) 16))
 
--- spaces, tabs and line ends
+-- spaces and line ends, a carriage return among these; a tab is neither
 abbrev pub isSpace : ℕ → Bool
-isSpace c = eqb c 32 || (leb 9 c && leb c 13)
+isSpace c = eqb c 32 || eqb c 10 || eqb c 13
 
 -- the values of all characters that are not spaces
 unfoldable pub valuesOf : List ℕ → List ℕ

@@ -36,7 +36,7 @@ fn value(c: u8) -> Option<u8>
 fn is_space(c: u8) -> bool
     ensures { λ r. ⌜ r ≡ isSpace c ⌝ }
 {
-    c == b' ' || (c >= 9 && c <= 13)
+    c == b' ' || c == b'\n' || c == b'\r'
 }
 
 // Adds the digits of the bytes to a text, small letters and nothing between.
