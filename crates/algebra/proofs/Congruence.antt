@@ -1,5 +1,5 @@
 -- Numbers that agree modulo q.
-use Rattle.std.proofs.Common.{◌≡◌, ℕ, zero, suc, ◌+◌, ◌-◌, ◌*◌, ◌/◌, ◌%◌, ◌^◌, ◌<◌, sym, refl, ap, ◌∙◌, mod-lt, mul_comm, pow-suc, arith, pow-add}
+use Rattle.std.proofs.Common.{◌≡◌, ℕ, zero, suc, ◌+◌, ◌*◌, ◌/◌, ◌%◌, ◌^◌, ◌<◌, sym, refl, ap, ◌∙◌, mod-lt, mul_comm, pow-suc, arith, pow-add}
 use native.Mathlib.Nat.{div-add-mod, add-mul-mod_self_left, mod-mod, pow-zero}
 use Rattle.standards.specs.Lists.{sum_to}
 use Rattle.standards.specs.Ring.{power}

@@ -1,5 +1,5 @@
 -- ML-DSA: NTT and its inverse undo one another, and MultiplyNTT is the product of the ring.
-use Rattle.std.proofs.Common.{◌≡◌, ℕ, ◌+◌, ◌-◌, ◌*◌, ◌%◌, ◌^◌, ◌<◌, T, List, length, sym, refl, ap, ◌∙◌, mod-lt, arith, lit<, pow-add}
+use Rattle.std.proofs.Common.{◌≡◌, ℕ, ◌+◌, ◌*◌, ◌%◌, ◌^◌, ◌<◌, T, List, length, sym, refl, ap, ◌∙◌, mod-lt, arith, lit<, pow-add}
 use Rattle.standards.specs.Lists.{at, all_below, sum_to}
 use Rattle.standards.specs.Ring.{power, mul_p, mul_at}
 use Rattle.standards.specs.MlDsaParts.{ntt, ntt_at, ntt_inv, ntt_inv_at, zeta, multiply_ntt}

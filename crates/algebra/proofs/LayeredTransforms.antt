@@ -1,5 +1,5 @@
 -- The layers, with the tables of powers, are the transforms of the standards.
-use Rattle.std.proofs.Common.{◌≡◌, ℕ, ◌+◌, ◌-◌, ◌*◌, ◌/◌, ◌%◌, ◌<◌, T, List, refl, ap, arith, lit<}
+use Rattle.std.proofs.Common.{◌≡◌, ℕ, ◌+◌, ◌*◌, ◌/◌, ◌%◌, T, List, refl, ap, arith, lit<}
 use Rattle.standards.specs.Lists.{at}
 use Rattle.standards.specs.Bytes.{bit_rev}
 use Rattle.standards.specs.Ring.{Poly}

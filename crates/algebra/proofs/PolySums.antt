@@ -1,6 +1,6 @@
 -- Sums of polynomials, modulo any q.
-use Rattle.std.proofs.Common.{◌≡◌, ℕ, zero, suc, ◌+◌, ◌<◌, T, List, replicate, sym, refl, ap, ap₂, add-one, arith}
-use Rattle.standards.specs.Lists.{from, all_below}
+use Rattle.std.proofs.Common.{◌≡◌, ℕ, zero, suc, ◌+◌, ◌<◌, List, replicate, sym, refl, ap, ap₂, add-one, arith}
+use Rattle.standards.specs.Lists.{from}
 use Rattle.standards.specs.Ring.{add_p, sum_p}
 
 pub sum_p_none : (q : ℕ) (f : ℕ → List ℕ) → replicate 256 0 ≡ sum_p q 0 f

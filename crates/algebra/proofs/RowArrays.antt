@@ -1,12 +1,12 @@
 -- Loops over arrays of rows: a row is set, bytes of rows are written one after the other, draws are all full.
-use Rattle.std.proofs.Common.{◌≡◌, ℕ, zero, suc, ◌+◌, ◌-◌, ◌*◌, ◌<◌, ◌≤◌, Bool, true, false, ◌&&◌, T, eqb, ◌≢◌, List, [], ◌++◌, length, take, drop, set, sym, refl, ap, ◌∙◌, subst, ap₂, append_assoc, add-one, arith, below_more}
+use Rattle.std.proofs.Common.{◌≡◌, ℕ, zero, suc, ◌+◌, ◌*◌, ◌<◌, ◌≤◌, Bool, true, false, ◌&&◌, T, eqb, ◌≢◌, List, [], ◌++◌, length, take, set, sym, refl, ap, ◌∙◌, subst, ap₂, append_assoc, add-one, arith, below_more}
 use borrow.Rule.Slice.PartMut.{put_mid}
 use Rattle.std.proofs.lemmas.Nat.{mul-le}
 use Rattle.std.proofs.lemmas.List.{length-set, get_or-set_same, get_or-set_other, append-nil}
 use Rattle.std.proofs.lemmas.Slice.{take-put_mid}
 use Rattle.std.proofs.lemmas.Bool.{eqb-true, and_parts}
 use Rattle.standards.specs.Lists.{rows, tables, row_at, joined, all_below, all_full}
-use Rattle.algebra.specs.RowArrays.{RowsBelow, RowsAre, RowsFilled}
+use Rattle.algebra.specs.RowArrays.{RowsFilled}
 use Rattle.algebra.proofs.Rows.{tables-same}
 
 -- what was true of the rows below i and is true of the new one is true of one more

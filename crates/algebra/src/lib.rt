@@ -1,5 +1,7 @@
 // Laws of lists, sums, bits and bytes, and of the transforms: lemmas, in proofs/. The theorems that stand alone are named by the contracts of
 // functions that do nothing, so that the check asks for their proofs.
+#![tactic(auto)]
+
 ghost use Rattle.standards.specs.Promises.{PackingGoesBothWays, TransformsAreProducts};
 ghost use Rattle.standards.specs.Cases.{TransformCases};
 

@@ -2,10 +2,12 @@
 //     kem pack WIDTH NUMBERS        dsa pack WIDTH NUMBERS
 //     kem unpack WIDTH DIGITS       dsa unpack WIDTH DIGITS
 // The answer is a line of hexadecimal digits, or of numbers, or says what is wrong.
+#![tactic(auto)]
+
 ghost use Rattle.std.specs.Prelude.{◌≡◌, ◌^◌, ◌≤◌, T, IfOk, vec_len};
 ghost use Rattle.packing.specs.Widths.{kem_width, dsa_width};
 
-use hex::{read_hex, write_hex};
+use hex_digits::{read_hex, write_hex};
 use packing::{pack_u16, pack_u32, unpack_u16, unpack_u32};
 use std::alloc::{AllocError, AllocFailed, Global};
 use std::io::{BufRead, BufReader};

@@ -2,8 +2,10 @@
 //     FUNCTION MESSAGE BYTES
 // FUNCTION is sha3-256, sha3-512, shake128 or shake256, MESSAGE hexadecimal digits, or `-` for none, and BYTES a number.
 // The answer is a line of hexadecimal digits, or `-` for none; or it says what is wrong.
+#![tactic(auto)]
+
 use functions::{hashed, named};
-use hex::{read_hex, write_hex};
+use hex_digits::{read_hex, write_hex};
 use std::alloc::{AllocError, Global};
 use std::io::{BufRead, BufReader};
 use std::{fmt, io};

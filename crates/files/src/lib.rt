@@ -1,4 +1,6 @@
 // What the programs answer, as functions of the words and files that they are given. The mains only read and print.
+#![tactic(auto)]
+
 pub mod kem;
 pub mod texts;
 

@@ -2,7 +2,7 @@
 ghost use Rattle.std.specs.Prelude.{◌≡◌, true, false, ◌++◌, length, IfOk, MatchOption, OnOk, ◌≢◌};
 ghost use Rattle.files.specs.Texts.{most_text, set_of, text_of, unreadable, bytes_in, hex_line, refusal_line, answered};
 
-use hex::{read_hex, write_hex};
+use hex_digits::{read_hex, write_hex};
 use std::alloc::{AllocError, Global};
 
 // The longest text that is taken: the digits of 4 MiB of bytes, and as much for spaces and line ends.

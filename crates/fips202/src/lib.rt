@@ -1,3 +1,5 @@
 // FIPS 202: SHA3-256, SHA3-512, SHAKE128 and SHAKE256.
+#![tactic(auto)]
+
 pub mod functions;
 pub mod sponge;

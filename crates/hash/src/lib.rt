@@ -2,6 +2,8 @@
 //
 // A function is opened, absorbs a message in parts of any length, and is finished. Contracts speak of what is still to come, so none
 // counts the bytes that have gone before.
+#![tactic(auto)]
+
 ghost use Rattle.std.specs.Prelude.{◌≡◌, ℕ, ◌+◌, List, [], ◌++◌, length};
 ghost use Rattle.standards.specs.Lists.{table};
 ghost use Rattle.standards.specs.Hashes.{Hashes, Fair, shake256_bytes};

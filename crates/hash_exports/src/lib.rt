@@ -1,4 +1,6 @@
 // The permutation and two of the functions as C sees them, for benchmarks.
+#![tactic(auto)]
+
 ghost use Rattle.std.specs.Prelude.{◌≡◌, [], length};
 ghost use Rattle.standards.specs.Lists.{table};
 ghost use Rattle.standards.specs.Fips202.{keccak_f, fips202};

@@ -1,6 +1,8 @@
 // Keccak-f[1600]: a state of 25 lanes of 64 bits, lane x, y at place x + 5 y.
 //
 // Each step takes an array of lanes and gives a new one, written out lane by lane: the compiler then keeps the lanes in registers.
+#![tactic(auto)]
+
 ghost use Rattle.std.specs.Prelude.{◌≡◌, ◌+◌, ◌-◌, ◌^◌, ◌<◌};
 ghost use Rattle.std.specs.Int.Bits.{bit_xor, bit_and};
 ghost use Rattle.standards.specs.Lists.{at};

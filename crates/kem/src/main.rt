@@ -3,6 +3,8 @@
 //     kem encaps SET PK M       prints the shared key and the ciphertext of a coin
 //     kem decaps SET SK TEXT    prints the shared key of a ciphertext
 // SET is 1, 2 or 3, the others are names of files. A refusal is printed as `no` and its number.
+#![tactic(auto)]
+
 ghost use Rattle.std.specs.Prelude.{◌≡◌, IfOk, codes};
 ghost use Rattle.standards.specs.Fips202.{fips202};
 ghost use Rattle.files.specs.Texts.{text_of};

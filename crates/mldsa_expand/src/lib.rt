@@ -1,4 +1,6 @@
 // ExpandA, ExpandS and ExpandMask: matrices and vectors out of a seed, row by row.
+#![tactic(auto)]
+
 ghost use Rattle.std.specs.Prelude.{◌≡◌, ◌+◌, ◌*◌, ◌/◌, ◌%◌, ◌<◌, ◌≤◌, T, ◌⊎◌, length};
 ghost use Rattle.standards.specs.Lists.{tables, all_full};
 ghost use Rattle.standards.specs.MlDsaParts.{expand_a, expand_s, expand_mask};

@@ -1,6 +1,8 @@
 // The hints of a signature, which are rows of noughts and ones: how many ones there are, HintBitPack and HintBitUnpack.
 //
 // Hints are counted before a signature is kept, so counting has no branch on one. What is packed or unpacked is public.
+#![tactic(auto)]
+
 ghost use Rattle.std.specs.Prelude.{◌≡◌, ◌+◌, ◌≤◌, ◌&&◌, T, [], ◌∷◌, ◌++◌, length, take, drop};
 ghost use Rattle.standards.specs.Lists.{tables, all_below};
 ghost use Rattle.standards.specs.Ring.{zero_p};

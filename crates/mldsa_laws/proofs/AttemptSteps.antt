@@ -1,12 +1,12 @@
 -- An attempt is its steps, and signing is a loop of attempts.
-use Rattle.std.proofs.Common.{◌≡◌, ℕ, zero, suc, ◌+◌, ◌-◌, ◌*◌, ◌/◌, ◌%◌, ◌<◌, ◌≤◌, Bool, true, false, cond, ◌&&◌, eqb, List, [], length, sym, refl, ap, ◌∙◌, ap₂, arith}
+use Rattle.std.proofs.Common.{◌≡◌, ℕ, suc, ◌+◌, ◌-◌, ◌*◌, ◌%◌, ◌<◌, Bool, true, false, cond, ◌&&◌, eqb, List, [], length, sym, refl, ap, ◌∙◌, ap₂, arith}
 use Rattle.std.proofs.lemmas.Nat.{mul-add-lt, mod-mul-add, div-mul-add}
 use Rattle.std.proofs.lemmas.Bool.{cond-true, cond-false, ne_eqb}
-use Rattle.standards.specs.Lists.{table, tables, at, row_at}
+use Rattle.standards.specs.Lists.{tables, at, row_at}
 use Rattle.standards.specs.Ring.{sum_p}
 use Rattle.standards.specs.Hashes.{Hashes}
 use Rattle.standards.specs.MlDsaParts.{DsaSet, ntt, ntt_inv, multiply_ntt, expand_a}
-use Rattle.standards.specs.MlDsa.{sk_rho, Attempt, attempt, or_else, attempts}
+use Rattle.standards.specs.MlDsa.{sk_rho, attempt, or_else, attempts}
 use Rattle.algebra.specs.RowArrays.{RowsAre}
 use Rattle.algebra.proofs.PolySums.{sum_p-same}
 use Rattle.algebra.proofs.Rows.{tables-same}

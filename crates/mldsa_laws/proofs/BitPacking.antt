@@ -1,10 +1,10 @@
 -- Numbers modulo q around 0 as bytes and back; the parts of t; secrets are small.
-use Rattle.std.proofs.Common.{◌≡◌, ℕ, zero, suc, ◌+◌, ◌-◌, ◌*◌, ◌/◌, ◌%◌, ◌^◌, ◌<◌, ◌≤◌, true, T, eqb, leb, List, [], ◌∷◌, length, sym, refl, ap, ◌∙◌, subst, inl, inr, arith, lit<}
+use Rattle.std.proofs.Common.{◌≡◌, ℕ, ◌+◌, ◌-◌, ◌*◌, ◌/◌, ◌%◌, ◌^◌, ◌<◌, ◌≤◌, T, leb, List, length, sym, refl, ap, ◌∙◌, subst, inl, inr, arith, lit<}
 use Rattle.std.proofs.lemmas.Bool.{cond_both, leb-true, leb-false}
 use Rattle.standards.specs.Lists.{table, at, all_below}
 use Rattle.standards.specs.Bytes.{pack, unpack}
 use Rattle.standards.specs.Ring.{magnitude}
-use Rattle.standards.specs.MlDsaParts.{bit_pack, bit_unpack, power2_round1, power2_round0, half_byte_fits, coeff_from_half_byte, half_byte}
+use Rattle.standards.specs.MlDsaParts.{bit_pack, bit_unpack, power2_round1, power2_round0}
 use Rattle.algebra.proofs.Tables.{length-table, at_table, is_table, table_same, at_below, below_table}
 use Rattle.algebra.proofs.Packing.{length-pack, unpack-pack, below_unpack, pack-unpack}
 use Rattle.algebra.proofs.Congruence.{Same}

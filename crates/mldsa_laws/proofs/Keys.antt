@@ -6,7 +6,7 @@ use Rattle.standards.specs.Bytes.{pack, unpack}
 use Rattle.standards.specs.Ring.{power}
 use Rattle.standards.specs.Hashes.{Hashes, Fair, shake256_bytes}
 use Rattle.standards.specs.Ring.{sum_p}
-use Rattle.standards.specs.MlDsaParts.{DsaSet, eta_bits, ntt, ntt_at, zeta, ntt_inv, multiply_ntt, expand_a, expand_s, power2_round1, power2_round0, power2_round1_p, power2_round0_p, bit_pack, bit_unpack}
+use Rattle.standards.specs.MlDsaParts.{DsaSet, eta_bits, ntt, ntt_at, zeta, ntt_inv, multiply_ntt, expand_a, power2_round1, power2_round0, power2_round1_p, power2_round0_p, bit_pack, bit_unpack}
 use Rattle.standards.specs.MlDsa.{key_seeds, rho_of, s1_of, s2_of, t_of, pk_of, sk_of, sk_rho, sk_tr, sk_s1, sk_s2, sk_t0, pk_t1}
 use Rattle.algebra.proofs.Sums.{sum_same}
 use Rattle.algebra.proofs.Congruence.{Same, ◌▸◌, same_is, same_add}

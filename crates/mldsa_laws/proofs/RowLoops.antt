@@ -1,9 +1,9 @@
 -- Loops over rows: below i row j is f j, from i on each is as the loop found it.
-use Rattle.std.proofs.Common.{◌≡◌, ℕ, ◌+◌, ◌/◌, ◌%◌, ◌<◌, ◌≤◌, cond, T, eqb, leb, List, [], length, get_or, set, sym, refl, ap, ◌∙◌, subst, inl, inr, arith, lit<}
-use Rattle.std.proofs.lemmas.List.{ext_get_or, length-set, get_or-set_same, get_or-set_other}
-use Rattle.std.proofs.lemmas.Bool.{cases_eq, cond_both}
+use Rattle.std.proofs.Common.{◌≡◌, ℕ, ◌+◌, ◌/◌, ◌%◌, ◌<◌, ◌≤◌, T, eqb, leb, List, [], length, set, sym, refl, ◌∙◌, subst, arith, lit<}
+use Rattle.std.proofs.lemmas.List.{ext_get_or, length-set, get_or-set_other}
+use Rattle.std.proofs.lemmas.Bool.{cond_both}
 use Rattle.standards.specs.Lists.{tables, at, row_at, all_below}
-use Rattle.standards.specs.MlDsaParts.{high_bits, make_hint_p, power2_round1, power2_round1_p, q}
+use Rattle.standards.specs.MlDsaParts.{high_bits, make_hint_p, power2_round1_p, q}
 use Rattle.algebra.specs.RowArrays.{RowsBelow, RowsAre}
 use Rattle.algebra.proofs.Tables.{below_table, at_small}
 use Rattle.algebra.proofs.Rows.{row_at_lem, length-tables}

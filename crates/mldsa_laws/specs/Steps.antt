@@ -1,5 +1,5 @@
 -- One attempt at signing in its steps, each shut: what the code's parts owe. That they make up the standards' text is a lemma.
-use Rattle.std.specs.Prelude.{ℕ, ◌+◌, ◌-◌, ◌*◌, ◌/◌, ◌%◌, Bool, ◌&&◌, List, ◌++◌, nat_le, nat_lt}
+use Rattle.std.specs.Prelude.{ℕ, ◌+◌, ◌-◌, ◌/◌, ◌%◌, Bool, List, ◌++◌, nat_le, nat_lt}
 use Rattle.standards.specs.Lists.{table, tables, at, row_at, joined}
 use Rattle.standards.specs.Ring.{zero_p, add_p, sub_p, sum_p, norms}
 use Rattle.standards.specs.Hashes.{Hashes, shake256_bytes}

@@ -1,4 +1,6 @@
 // Every signature that signing gives passes its check, and an accepted one has one spelling: for any fair hashes and every set. Lemmas, in proofs/.
+#![tactic(auto)]
+
 ghost use Rattle.standards.specs.Promises.{SignaturesPass, OneSpelling};
 ghost use Rattle.standards.specs.Cases.{DecomposeCases, Power2RoundCases};
 

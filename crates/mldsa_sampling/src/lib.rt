@@ -1,4 +1,6 @@
 // The sampling of FIPS 204, on rows of 256 numbers below q: RejNTTPoly, RejBoundedPoly, SampleInBall, ExpandMask.
+#![tactic(auto)]
+
 pub mod ball;
 pub mod bounded;
 mod drawn;

@@ -1,4 +1,6 @@
 // What follows from the numbers of a set of ML-DSA: widths, bounds and lengths.
+#![tactic(auto)]
+
 ghost use Rattle.std.specs.Prelude.{◌≡◌, ◌-◌, ◌/◌, ◌<◌, ◌≤◌, T};
 ghost use Rattle.standards.specs.MlDsaParts.{eta_bits, z_bits, w1_bits, gamma1 as gamma1_of, beta};
 ghost use Rattle.standards.specs.MlDsa.{pk_length, sk_length, sig_length};

@@ -1,5 +1,7 @@
 // ML-KEM over any hashes, one code for the three sets: the calls on lent bytes, by set number. First all checks, then the first write: what is
 // refused leaves every lent byte as it was.
+#![tactic(auto)]
+
 ghost use Rattle.std.specs.Prelude.{◌≡◌, length};
 ghost use Rattle.standards.specs.MlKem.{ek_of, dk_of, encaps_key, encaps_text, decaps};
 ghost use Rattle.standards.specs.Calls.{kem_of, kem_keys_verdict, encaps_verdict, decaps_verdict, after};

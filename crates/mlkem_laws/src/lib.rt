@@ -1,4 +1,6 @@
 // Both sides of an exchange have one key: for any fair hashes and every set. Lemmas, in proofs/.
+#![tactic(auto)]
+
 ghost use Rattle.standards.specs.Promises.{ExchangesAgree};
 ghost use Rattle.standards.specs.Cases.{CompressCases};
 

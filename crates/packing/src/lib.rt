@@ -3,6 +3,8 @@
 // Eight numbers of d bits are d bytes, so everything goes by eights. The width is a constant in the code that does the work,
 // and the compiler unrolls it; the functions here choose the constant, at the widths that the schemes use.
 // The loops run over lengths and widths alone: nothing depends on a number's value.
+#![tactic(auto)]
+
 ghost use Rattle.std.specs.Prelude.{◌≡◌, ◌*◌, T, length};
 ghost use Rattle.standards.specs.Bytes.{pack, unpack};
 ghost use Rattle.packing.specs.Widths.{kem_width, dsa_width};

@@ -1,4 +1,6 @@
 // Plain hashes, for tests: they add up the message's bytes and count on from there.
+#![tactic(auto)]
+
 ghost use Rattle.std.specs.Prelude.{◌≡◌, ℕ, ◌+◌, ◌*◌, ◌%◌, length, sum};
 ghost use Rattle.standards.specs.Lists.{table};
 ghost use Rattle.standards.specs.Hashes.{Hashes};

@@ -1,4 +1,6 @@
 // Numbers modulo q, polynomials and the transforms of ML-KEM and ML-DSA.
+#![tactic(auto)]
+
 mod butterfly;
 pub mod dsa;
 pub mod kem;

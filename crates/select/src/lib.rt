@@ -1,4 +1,6 @@
 // Comparing and choosing without a branch: every byte is looked at, and which one is taken is a matter of masks.
+#![tactic(auto)]
+
 ghost use Rattle.std.specs.Prelude.{◌≡◌, ◌<◌, length, if◌then◌else◌, ◌==◌, nat_eq};
 ghost use Rattle.standards.specs.Lists.{same};
 

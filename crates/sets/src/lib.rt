@@ -1,4 +1,6 @@
 // Parameter sets by number, and refusals by number.
+#![tactic(auto)]
+
 ghost use Rattle.std.specs.Prelude.{◌≡◌, if◌then◌else◌, MatchResult};
 ghost use Rattle.standards.specs.Calls.{is_set, kem_of, dsa_of};
 ghost use Rattle.sets.specs.Sets.{kem_numbers, KemFits, dsa_numbers, DsaFits, number_of, verdict_of};

@@ -2,7 +2,6 @@
 use Rattle.std.specs.Prelude.{◌≡◌, [], ◌∷◌, ◌-◌, ◌%◌, set, take}
 use Rattle.standards.specs.Lists.{table}
 use Rattle.standards.specs.Ring.{zero_p}
-use Rattle.standards.specs.Hashes.{Hashes}
 use Rattle.standards.specs.Fips202.{fips202}
 use Rattle.standards.specs.MlKemParts.{compress, decompress, ntt, multiply_ntts}
 use Rattle.standards.specs.MlDsaParts.{high_bits, low_bits, power2_round1, power2_round0}

@@ -1,5 +1,5 @@
 -- FIPS 204, the auxiliary functions: parameter sets, bit packing, hints, sampling, rounding, and the transform. Assumes nothing.
-use Rattle.std.specs.Prelude.{Bool, true, cond, ◌&&◌, List, [], ◌∷◌, ◌++◌, ℕ, zero, suc, ◌+◌, ◌-◌, ◌*◌, ◌/◌, ◌%◌, ◌^◌, eqb, ltb, leb, length, set}
+use Rattle.std.specs.Prelude.{Bool, cond, ◌&&◌, List, [], ◌∷◌, ◌++◌, ℕ, zero, suc, ◌+◌, ◌-◌, ◌*◌, ◌/◌, ◌%◌, ◌^◌, eqb, ltb, leb, length, set}
 use Rattle.standards.specs.Lists.{table, tables, at, row_at, sum_to, joined}
 use Rattle.standards.specs.Bytes.{pack, unpack, bit_rev}
 use Rattle.standards.specs.Ring.{power, zero_p}

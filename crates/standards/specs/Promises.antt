@@ -1,5 +1,5 @@
 -- What is promised of the whole, and of its parts. Each is a type, and a term of that type is its proof. Assumes nothing.
-use Rattle.std.specs.Prelude.{◌≡◌, List, ◌++◌, ℕ, ◌+◌, ◌*◌, ◌<◌, ◌/◌, ◌^◌, leb, T, length, take}
+use Rattle.std.specs.Prelude.{◌≡◌, List, ◌++◌, ℕ, ◌*◌, ◌<◌, ◌/◌, ◌^◌, leb, T, length, take}
 use Rattle.standards.specs.Lists.{tables, joined, all_below}
 use Rattle.standards.specs.Bytes.{Bytes, pack, unpack}
 use Rattle.standards.specs.Ring.{Poly, mul_p}

@@ -10,8 +10,8 @@ loop-constant-init c = ap (λ cs. rounds cs c.args.a.now) constants_are
 
 pub loop-constant-preserved : goal.loop-constant-preserved
 loop-constant-preserved c =
-    rounds_more c.loop-constant.a c.chi-step-b.result c.loop-constant.constant-index (omega arith)
-    (c.chi-step-b.ensures ∙ ap chi (c.rho-pi-step.ensures ∙ ap (λ xs. pi (rho xs)) c.theta-step.ensures))
+    rounds_more c.loop-constant.a c.chi_step-b.result c.loop-constant.constant-index (omega arith)
+    (c.chi_step-b.ensures ∙ ap chi (c.rho_pi_step.ensures ∙ ap (λ xs. pi (rho xs)) c.theta_step.ensures))
     ∙ c.loop-constant.invariant
 
 pub returns : goal.returns

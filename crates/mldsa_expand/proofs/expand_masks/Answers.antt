@@ -6,7 +6,7 @@ pub loop-i-init : goal.loop-i-init
 loop-i-init g c = rows_start 8380417 _ c.args.y.now
 
 pub loop-i-preserved : goal.loop-i-preserved
-loop-i-preserved g c = rows_next 8380417 _ c.args.y.now c.loop-i.i c.loop-i.y _ (omega arith) c.expand-mask.ensures.value c.expand-mask.ensures.below c.loop-i.invariant
+loop-i-preserved g c = rows_next 8380417 _ c.args.y.now c.loop-i.i c.loop-i.y _ (omega arith) c.expand_mask.ensures.value c.expand_mask.ensures.below c.loop-i.invariant
 
 pub returns : goal.returns
 returns g c =

@@ -9,9 +9,9 @@ use Rattle.mldsa_hints.proofs.hint_bit_unpack.Goals as goal
 pub loop-i-init : goal.loop-i-init
 loop-i-init c = (omega arith, refl, rise_none _ _, sym (tables_none _))
 
-pub returns-then-not-unpack-row : goal.returns-then-not-unpack-row
-returns-then-not-unpack-row c =
-    record { good = rise_stop (dsa_numbers c.args.p) c.args.sig.now _ (take_rest c.args.sig.now _) c.loop-i.i c.loop-i.begin (omega arith) c.loop-i.invariant.1 (sym c.if-not-unpack-row.ensures.good); rows = λ t. absurd t }
+pub returns-then-not-unpack_row : goal.returns-then-not-unpack_row
+returns-then-not-unpack_row c =
+    record { good = rise_stop (dsa_numbers c.args.p) c.args.sig.now _ (take_rest c.args.sig.now _) c.loop-i.i c.loop-i.begin (omega arith) c.loop-i.invariant.1 (sym c.if-not-unpack_row.ensures.good); rows = λ t. absurd t }
 
 pub loop-i-preserved : goal.loop-i-preserved
 loop-i-preserved c =
@@ -20,9 +20,9 @@ loop-i-preserved c =
     let i = c.loop-i.i in
     let part = take_rest s _ in
     let begins = c.loop-i.invariant.1 in
-    let good = c.if-not-unpack-row.ensures in
+    let good = c.if-not-unpack_row.ensures in
     let next = rise_next p s _ part i c.loop-i.begin begins (sym good.good) c.loop-i.invariant.2 in
-    (next.0, next.1, next.2, tables_next (hint_row p s) c.loop-i.hs i c.unpack-row.new.row (omega arith) (good.row tt ∙ row_marked p s _ part i c.loop-i.begin begins) c.loop-i.invariant.3)
+    (next.0, next.1, next.2, tables_next (hint_row p s) c.loop-i.hs i c.unpack_row.new.row (omega arith) (good.row tt ∙ row_marked p s _ part i c.loop-i.begin begins) c.loop-i.invariant.3)
 
 pub returns : goal.returns
 returns c =
@@ -30,6 +30,6 @@ returns c =
     let s = c.args.sig.now in
     let all : c.loop-i.i ≡ c.args.p.k = omega arith in
     record {
-      good = c.all-zero.ensures ∙ rise_last p s _ (take_rest s _) c.loop-i.i c.loop-i.begin all c.requires.fits.k_some c.loop-i.invariant.1 c.loop-i.invariant.2;
+      good = c.all_zero.ensures ∙ rise_last p s _ (take_rest s _) c.loop-i.i c.loop-i.begin all c.requires.fits.k_some c.loop-i.invariant.1 c.loop-i.invariant.2;
       rows = λ _. sym (take_all c.loop-i.i c.loop-i.hs (omega arith)) ∙ (c.loop-i.invariant.3 ∙ ap (λ n. tables n (hint_row p s)) all);
     }

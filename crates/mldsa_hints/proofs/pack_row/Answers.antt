@@ -4,8 +4,8 @@ use Rattle.standards.specs.MlDsaParts.{places}
 use Rattle.mldsa_hints.proofs.PlacesOut.{row_next, row_room, row_last, drop-later}
 use Rattle.mldsa_hints.proofs.pack_row.Goals as goal
 
-pub put-place-m-requires : goal.put-place-m-requires
-put-place-m-requires c =
+pub put_place-m-requires : goal.put_place-m-requires
+put_place-m-requires c =
     let long : length (take c.args.n c.args.out.now ++ places 0 c.args.row.now) ≤ length c.loop-i.out =
     omega (arith, length-append (take c.args.n c.args.out.now) (places 0 c.args.row.now), length-take-le c.args.n c.args.out.now (omega arith)) in
     row_room c.args.row.now c.loop-i.out c.loop-i.i c.loop-i.m _ (omega arith) (omega arith) c.loop-i.invariant.3 long
@@ -14,8 +14,8 @@ pub loop-i-preserved : goal.loop-i-preserved
 loop-i-preserved c = (
   omega arith,
   omega arith,
-  c.put-place-m.ensures.back ∙ drop-later c.loop-i.m c.put-place-m.result _ _ (omega arith) c.loop-i.invariant.2,
-  row_next c.args.row.now c.loop-i.out c.put-place-m.new.out c.loop-i.i c.loop-i.m c.put-place-m.result _ (omega arith) c.put-place-m.ensures.front c.loop-i.invariant.3,
+  c.put_place-m.ensures.back ∙ drop-later c.loop-i.m c.put_place-m.result _ _ (omega arith) c.loop-i.invariant.2,
+  row_next c.args.row.now c.loop-i.out c.put_place-m.new.out c.loop-i.i c.loop-i.m c.put_place-m.result _ (omega arith) c.put_place-m.ensures.front c.loop-i.invariant.3,
 )
 
 pub returns : goal.returns

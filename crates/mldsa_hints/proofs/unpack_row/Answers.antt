@@ -16,7 +16,7 @@ returns-then-x-least c =
 pub loop-j-preserved : goal.loop-j-preserved
 loop-j-preserved c = (
   length-set _ _ _ ∙ c.loop-j.invariant.0,
-  omega (arith, c.type-inv.part c.loop-j.j),
+  omega (arith, c.type_inv.part c.loop-j.j),
   rises_next c.args.part.now c.loop-j.j c.args.end c.loop-j.least _ (omega arith) (omega arith) c.if-x-least.false c.loop-j.invariant.2,
   marks_next c.args.part.now c.loop-j.row _ c.loop-j.j c.args.end (omega arith) (omega arith) c.loop-j.invariant.3,
 )

@@ -8,11 +8,11 @@ use Rattle.mlkem.proofs.decapsulate.Goals as goal
 pub returns : goal.returns
 returns g c =
     let h = g.H.Hash.hashes in
-    let p = kem_numbers c.in-ok-p.p in
+    let p = kem_numbers c.in_ok-p.p in
     let dk = c.args.dk.now in
-    let is = c.in-ok-p.ensures.set in
+    let is = c.in_ok-p.ensures.set in
     record {
-      verdict = decaps_goes h c.args.set dk c.args.c.now p is (passed _ c.in-ok-p.ensures.verdict)
-          c.if-dk-p.false c.if-c-p.false (sym c.if-not-same-hash.ensures) (sym (c.if-not-expand-key.ensures.drawn ∙ ap (λ x. matrix_drawn h p (ek_rho p x)) c.encapsulation-key.ensures.value));
+      verdict = decaps_goes h c.args.set dk c.args.c.now p is (passed _ c.in_ok-p.ensures.verdict)
+          c.if-dk-p.false c.if-c-p.false (sym c.if-not-same_hash.ensures) (sym (c.if-not-expand_key.ensures.drawn ∙ ap (λ x. matrix_drawn h p (ek_rho p x)) c.encapsulation_key.ensures.value));
       key = c.decapsulate.ensures ∙ ap (λ (u : KemSet). decaps h u dk c.args.c.now) is;
     }

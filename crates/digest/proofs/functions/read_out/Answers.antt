@@ -24,6 +24,6 @@ loop-done-preserved g c =
     let size : length (take (k - 0) (replicate {A = ℕ} 168 0)) ≡ k = length-take (k - 0) (replicate {A = ℕ} 168 0) ∙ omega arith in
     let bytes : c.squeeze.new.out ≡ table k (later i f) = c.squeeze.ensures.bytes ∙ ap₂ table size inv.2 in (
       omega (arith, inv.0),
-      pushed c.squeeze.new.out inv.1 c.in-ok-extend-from-slice.was c.extend-from-slice.ensures.items ∙ (ap (λ ys. table i f ++ ys) bytes ∙ table-later i k f),
+      pushed c.squeeze.new.out inv.1 c.in_ok-extend_from_slice.was c.extend_from_slice.ensures.items ∙ (ap (λ ys. table i f ++ ys) bytes ∙ table-later i k f),
       c.squeeze.ensures.onward ∙ (ap₂ later size inv.2 ∙ later-later k i f),
     )

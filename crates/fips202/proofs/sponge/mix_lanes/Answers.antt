@@ -7,7 +7,7 @@ loop-i-init c = mixing_none c.args.lanes.now c.args.part.now c.args.first c.told
 
 pub loop-i-preserved : goal.loop-i-preserved
 loop-i-preserved c =
-    mixing_more c.args.lanes.now c.args.part.now c.args.first c.loop-i.i c.loop-i.lanes c.lane-at.result (omega arith) c.loop-i.invariant c.lane-at.ensures
+    mixing_more c.args.lanes.now c.args.part.now c.args.first c.loop-i.i c.loop-i.lanes c.lane_at.result (omega arith) c.loop-i.invariant c.lane_at.ensures
 
 pub returns : goal.returns
 returns c = mixing_all c.args.lanes.now c.args.part.now c.args.first c.loop-i.i c.loop-i.lanes (omega arith) c.loop-i.invariant

@@ -9,7 +9,7 @@ loop-i-init c = record { long = refl; bytes = λ k h. absurd (omega arith) }
 
 pub loop-i-preserved : goal.loop-i-preserved
 loop-i-preserved c =
-    unpacked_more c.args.lanes.now c.loop-i.i c.loop-i.bytes c.copy-from-slice.new.self _ (omega arith) (omega arith) c.loop-i.invariant (c.copy-from-slice.ensures.after ∙ c.to-le-bytes.ensures)
+    unpacked_more c.args.lanes.now c.loop-i.i c.loop-i.bytes c.copy_from_slice.new.self _ (omega arith) (omega arith) c.loop-i.invariant (c.copy_from_slice.ensures.after ∙ c.to_le_bytes.ensures)
 
 pub returns : goal.returns
 returns c = is_table 200 (state_byte c.args.lanes.now) c.loop-i.bytes c.loop-i.invariant.long (λ k h. c.loop-i.invariant.bytes k (omega arith))

@@ -11,7 +11,7 @@ returns g c =
     let f : ℕ → ℕ = g.X.Output.Reader.rest c.finish-reader.result in
     let s = g.X.Xof.stream in
     let same : g.X.Output.Reader.rest c.finish-whole.result ≡ f =
-    c.finish-whole.ensures ∙ (c.absorb-all-2.ensures [] ∙ (ap (λ xs. s c.args.y (xs ++ [])) (sym c.requires.1) ∙
-    (sym (ap (λ t. t (message c.args.one.now ++ [])) c.requires.0) ∙ (sym (c.absorb-all.ensures []) ∙ sym c.finish-reader.ensures)))) in
+    c.finish-whole.ensures ∙ (c.absorb_all-2.ensures [] ∙ (ap (λ xs. s c.args.y (xs ++ [])) (sym c.requires.1) ∙
+    (sym (ap (λ t. t (message c.args.one.now ++ [])) c.requires.0) ∙ (sym (c.absorb_all.ensures []) ∙ sym c.finish-reader.ensures)))) in
     c.squeeze-3.ensures.bytes ∙ (ap₂ table c.requires.2 same ∙ (sym (table-later n m f) ∙
     sym (ap₂ (λ (xs ys : List ℕ). xs ++ ys) c.squeeze.ensures.bytes (c.squeeze-2.ensures.bytes ∙ ap (table m) c.squeeze.ensures.onward))))

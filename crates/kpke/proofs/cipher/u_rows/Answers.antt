@@ -23,7 +23,7 @@ pub loop-i-preserved : goal.loop-i-preserved
 loop-i-preserved g c =
     let p = c.args.p in
     fill_row 4 (2 ^ p.du) (u_row g.H.Hash.hashes p.k p.eta2 p.du c.args.r.now c.args.a.now c.args.y.now) c.loop-i.u c.loop-i.i _ (omega arith)
-    (c.compress.ensures.value ∙ ap (compress_p p.du) (c.add.ensures.value ∙ ap₂ (add_p 3329) (c.ntt-inverse.ensures.value ∙ ap ntt_inv c.dot.ensures.value) c.small-poly.ensures.value))
+    (c.compress.ensures.value ∙ ap (compress_p p.du) (c.add.ensures.value ∙ ap₂ (add_p 3329) (c.ntt_inverse.ensures.value ∙ ap ntt_inv c.dot.ensures.value) c.small_poly.ensures.value))
     c.compress.ensures.below c.loop-i.invariant
 
 pub returns : goal.returns

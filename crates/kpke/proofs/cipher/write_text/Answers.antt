@@ -3,14 +3,14 @@ use Rattle.algebra.proofs.Parts.{put_two}
 use Rattle.kpke.proofs.SetWidths.{du_width, dv_width}
 use Rattle.kpke.proofs.cipher.write_text.Goals as goal
 
-pub encode-rows-requires : goal.encode-rows-requires
-encode-rows-requires c = let f = c.requires.fits in (du_width _ f.du_low f.du_high, (omega (arith, f.du_high), (f.few, omega arith)))
+pub encode_rows-requires : goal.encode_rows-requires
+encode_rows-requires c = let f = c.requires.fits in (du_width _ f.du_low f.du_high, (omega (arith, f.du_high), (f.few, omega arith)))
 
-pub pack-u16-requires : goal.pack-u16-requires
-pack-u16-requires c = let f = c.requires.fits in (dv_width _ f.dv_low f.dv_high, omega arith)
+pub pack_u16-requires : goal.pack_u16-requires
+pack_u16-requires c = let f = c.requires.fits in (dv_width _ f.dv_low f.dv_high, omega arith)
 
 pub returns : goal.returns
 returns c =
     let n = 32 * c.args.p.du * c.args.p.k in
-    put_two n _ _ (n + 32 * c.args.p.dv) c.args.text.now c.encode-rows.new.out c.pack-u16.new.out _ _ (omega arith) (omega arith) (omega arith) (omega arith)
-    c.encode-rows.ensures c.pack-u16.ensures
+    put_two n _ _ (n + 32 * c.args.p.dv) c.args.text.now c.encode_rows.new.out c.pack_u16.new.out _ _ (omega arith) (omega arith) (omega arith) (omega arith)
+    c.encode_rows.ensures c.pack_u16.ensures

@@ -11,8 +11,8 @@ use Rattle.kpke.proofs.rows.expand.Goals as goal
 pub loop-n-init : goal.loop-n-init
 loop-n-init g c = (c.told-a, sym (full_none _), λ m h. absurd (omega arith))
 
-pub overflow-cast-n-in-loop-n : goal.overflow-cast-n-in-loop-n
-overflow-cast-n-in-loop-n g c = omega (arith, div-le_self c.loop-n.n c.args.p.k, square c.args.p.k c.requires.few)
+pub overflow_cast-n-in-loop-n : goal.overflow_cast-n-in-loop-n
+overflow_cast-n-in-loop-n g c = omega (arith, div-le_self c.loop-n.n c.args.p.k, square c.args.p.k c.requires.few)
 
 pub bounds-a-n : goal.bounds-a-n
 bounds-a-n g c = omega (arith, square c.args.p.k c.requires.few)
@@ -21,9 +21,9 @@ pub loop-n-preserved : goal.loop-n-preserved
 loop-n-preserved g c =
     let f : ℕ → List ℕ = entry_at g.H.Hash.hashes c.args.p.k c.args.rho.now in
     let n = c.loop-n.n in
-    let e = c.sample-ntt-full.ensures in
+    let e = c.sample_ntt-full.ensures in
     let room : n < length c.loop-n.a = omega (arith, square c.args.p.k c.requires.few) in
-    let good : length (f n) ≡ 256 → T c.sample-ntt-full.result = λ l. subst T (sym (e.full ∙ eq-eqb (length (f n)) 256 l)) tt in (
+    let good : length (f n) ≡ 256 → T c.sample_ntt-full.result = λ l. subst T (sym (e.full ∙ eq-eqb (length (f n)) 256 l)) tt in (
       length-set c.loop-n.a n _ ∙ c.loop-n.invariant.0,
       ap₂ ◌&&◌ c.loop-n.invariant.1 e.full ∙ sym (full_more n f),
       each_set (λ j r. length (f j) ≡ 256 → (r ≡ f j) × T (all_below 3329 r)) c.loop-n.a n _ room c.loop-n.invariant.2 (λ l. (e.value (good l), e.below (good l))),

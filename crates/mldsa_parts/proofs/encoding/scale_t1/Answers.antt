@@ -5,8 +5,8 @@ use Rattle.algebra.proofs.Tables.{at_small, below_table}
 use Rattle.algebra.proofs.Words.{filled_all, filled_set, filled_below}
 use Rattle.mldsa_parts.proofs.encoding.scale_t1.Goals as goal
 
-pub overflow-mul-f : goal.overflow-mul-f
-overflow-mul-f c = omega (arith, filled_below 1024 _ c.args.f.now c.loop-i.i c.loop-i.f (lit< tt) c.requires c.loop-i.invariant c.loop-i.i (omega arith))
+pub overflow_mul-f : goal.overflow_mul-f
+overflow_mul-f c = omega (arith, filled_below 1024 _ c.args.f.now c.loop-i.i c.loop-i.f (lit< tt) c.requires c.loop-i.invariant c.loop-i.i (omega arith))
 
 pub loop-i-preserved : goal.loop-i-preserved
 loop-i-preserved c =

@@ -6,12 +6,12 @@ use Rattle.algebra.proofs.Words.{filled_all, filled_below, filled_set}
 use Rattle.mldsa_parts.proofs.Numbers.{low_below}
 use Rattle.mldsa_parts.proofs.rounding.low_bits.Goals as goal
 
-pub low-number-requires : goal.low-number-requires
-low-number-requires c = record { set = c.requires.set; below = filled_below 8380417 _ c.args.f.now c.loop-i.i c.loop-i.f (lit< tt) c.requires.below c.loop-i.invariant c.loop-i.i (omega arith) }
+pub low_number-requires : goal.low_number-requires
+low_number-requires c = record { set = c.requires.set; below = filled_below 8380417 _ c.args.f.now c.loop-i.i c.loop-i.f (lit< tt) c.requires.below c.loop-i.invariant c.loop-i.i (omega arith) }
 
 pub loop-i-preserved : goal.loop-i-preserved
 loop-i-preserved c =
-    filled_set _ _ c.loop-i.i _ _ (omega arith) (c.low-number.ensures ∙ ap (low_bits c.args.gamma2) (c.loop-i.invariant.rest c.loop-i.i (omega arith))) c.loop-i.invariant
+    filled_set _ _ c.loop-i.i _ _ (omega arith) (c.low_number.ensures ∙ ap (low_bits c.args.gamma2) (c.loop-i.invariant.rest c.loop-i.i (omega arith))) c.loop-i.invariant
 
 pub returns : goal.returns
 returns c =

@@ -5,14 +5,14 @@ use Rattle.algebra.proofs.Tables.{at_table, at_noughts, at_small, table_same}
 use Rattle.algebra.proofs.Words.{filled_all, filled_set}
 use Rattle.mldsa_parts.proofs.rounding.make_hint.Goals as goal
 
-pub make-hint-number-requires : goal.make-hint-number-requires
-make-hint-number-requires c = record {
+pub make_hint_number-requires : goal.make_hint_number-requires
+make_hint_number-requires c = record {
   set = c.requires.set;
   below = (at_small 8380417 c.args.v.now (lit< tt) c.requires.below.0 c.loop-i.i, at_small 8380417 c.args.ct.now (lit< tt) c.requires.below.1 c.loop-i.i);
 }
 
 pub loop-i-preserved : goal.loop-i-preserved
-loop-i-preserved c = filled_set _ _ c.loop-i.i _ _ (omega arith) c.make-hint-number.ensures c.loop-i.invariant
+loop-i-preserved c = filled_set _ _ c.loop-i.i _ _ (omega arith) c.make_hint_number.ensures c.loop-i.invariant
 
 pub returns : goal.returns
 returns c =

@@ -5,11 +5,11 @@ use Rattle.algebra.proofs.Tables.{below_table}
 use Rattle.algebra.proofs.Words.{filled_all, filled_below}
 use Rattle.mldsa_parts.proofs.rounding.power2_round.Goals as goal
 
-pub power2-high-requires : goal.power2-high-requires
-power2-high-requires c = filled_below 8380417 _ c.args.t.now c.loop-i.i c.loop-i.t (lit< tt) c.requires c.loop-i.invariant.0 c.loop-i.i (omega arith)
+pub power2_high-requires : goal.power2_high-requires
+power2_high-requires c = filled_below 8380417 _ c.args.t.now c.loop-i.i c.loop-i.t (lit< tt) c.requires c.loop-i.invariant.0 c.loop-i.i (omega arith)
 
-pub power2-low-requires : goal.power2-low-requires
-power2-low-requires c = filled_below 8380417 _ c.args.t.now c.loop-i.i c.loop-i.t (lit< tt) c.requires c.loop-i.invariant.0 c.loop-i.i (omega arith)
+pub power2_low-requires : goal.power2_low-requires
+power2_low-requires c = filled_below 8380417 _ c.args.t.now c.loop-i.i c.loop-i.t (lit< tt) c.requires c.loop-i.invariant.0 c.loop-i.i (omega arith)
 
 pub returns : goal.returns
 returns c =

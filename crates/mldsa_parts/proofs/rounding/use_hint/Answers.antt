@@ -6,13 +6,13 @@ use Rattle.algebra.proofs.Words.{filled_all, filled_below, filled_set}
 use Rattle.mldsa_parts.proofs.Numbers.{use_below}
 use Rattle.mldsa_parts.proofs.rounding.use_hint.Goals as goal
 
-pub use-hint-number-requires : goal.use-hint-number-requires
-use-hint-number-requires c =
+pub use_hint_number-requires : goal.use_hint_number-requires
+use_hint_number-requires c =
     record { set = c.requires.set; below = filled_below 8380417 _ c.args.f.now c.loop-i.i c.loop-i.f (lit< tt) c.requires.below c.loop-i.invariant c.loop-i.i (omega arith) }
 
 pub loop-i-preserved : goal.loop-i-preserved
 loop-i-preserved c =
-    filled_set _ _ c.loop-i.i _ _ (omega arith) (c.use-hint-number.ensures ∙ ap (use_hint c.args.gamma2 (at c.args.h.now c.loop-i.i)) (c.loop-i.invariant.rest c.loop-i.i (omega arith))) c.loop-i.invariant
+    filled_set _ _ c.loop-i.i _ _ (omega arith) (c.use_hint_number.ensures ∙ ap (use_hint c.args.gamma2 (at c.args.h.now c.loop-i.i)) (c.loop-i.invariant.rest c.loop-i.i (omega arith))) c.loop-i.invariant
 
 pub returns : goal.returns
 returns c =

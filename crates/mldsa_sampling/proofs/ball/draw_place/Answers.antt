@@ -9,11 +9,11 @@ loop-seen-preserved g c =
     let s = ahead c.args.block.now c.args.pos.now (g.R.Reader.rest c.args.reader.now) in
     let r = ahead c.loop-seen.block c.loop-seen.pos (g.R.Reader.rest c.loop-seen.reader) in
     let seen = c.loop-seen.-seen in
-    let b = c.next-byte-b.result in (
-      c.next-byte-b.ensures.within,
+    let b = c.next_byte-b.result in (
+      c.next_byte-b.ensures.within,
       omega arith,
-      next_onward s r _ seen c.loop-seen.invariant.2 c.next-byte-b.ensures.onward,
-      first_next s 1024 seen c.args.i b _ (omega arith) (next_read s r seen b c.loop-seen.invariant.2 c.next-byte-b.ensures.byte) c.if-b-i.false c.loop-seen.invariant.3,
+      next_onward s r _ seen c.loop-seen.invariant.2 c.next_byte-b.ensures.onward,
+      first_next s 1024 seen c.args.i b _ (omega arith) (next_read s r seen b c.loop-seen.invariant.2 c.next_byte-b.ensures.byte) c.if-b-i.false c.loop-seen.invariant.3,
     )
 
 pub returns-then-b-i : goal.returns-then-b-i
@@ -21,13 +21,13 @@ returns-then-b-i g c =
     let s = ahead c.args.block.now c.args.pos.now (g.R.Reader.rest c.args.reader.now) in
     let r = ahead c.loop-seen.block c.loop-seen.pos (g.R.Reader.rest c.loop-seen.reader) in
     let seen = c.loop-seen.-seen in
-    let b = c.next-byte-b.result in
-    let v = next_read s r seen b c.loop-seen.invariant.2 c.next-byte-b.ensures.byte in
+    let b = c.next_byte-b.result in
+    let v = next_read s r seen b c.loop-seen.invariant.2 c.next_byte-b.ensures.byte in
     let at = first_found s 1024 seen c.args.i b _ v (inl c.if-b-i.true) c.loop-seen.invariant.3 in
     record {
       byte = v ∙ ap s (sym at);
-      onward = next_onward s r _ seen c.loop-seen.invariant.2 c.next-byte-b.ensures.onward ∙ ap (λ k. later (k + 1) s) (sym at);
-      within = c.next-byte-b.ensures.within;
+      onward = next_onward s r _ seen c.loop-seen.invariant.2 c.next_byte-b.ensures.onward ∙ ap (λ k. later (k + 1) s) (sym at);
+      within = c.next_byte-b.ensures.within;
     }
 
 pub returns : goal.returns
@@ -35,11 +35,11 @@ returns g c =
     let s = ahead c.args.block.now c.args.pos.now (g.R.Reader.rest c.args.reader.now) in
     let r = ahead c.loop-seen.block c.loop-seen.pos (g.R.Reader.rest c.loop-seen.reader) in
     let seen = c.loop-seen.-seen in
-    let b = c.next-byte.result in
-    let v = next_read s r seen b c.loop-seen.invariant.2 c.next-byte.ensures.byte in
+    let b = c.next_byte.result in
+    let v = next_read s r seen b c.loop-seen.invariant.2 c.next_byte.ensures.byte in
     let at = first_found s 1024 seen c.args.i b _ v (inr (omega arith)) c.loop-seen.invariant.3 in
     record {
       byte = v ∙ ap s (sym at);
-      onward = next_onward s r _ seen c.loop-seen.invariant.2 c.next-byte.ensures.onward ∙ ap (λ k. later (k + 1) s) (sym at);
-      within = c.next-byte.ensures.within;
+      onward = next_onward s r _ seen c.loop-seen.invariant.2 c.next_byte.ensures.onward ∙ ap (λ k. later (k + 1) s) (sym at);
+      within = c.next_byte.ensures.within;
     }

@@ -36,10 +36,10 @@ loop-t-preserved g c =
     let t = c.loop-t.t in
     let start : g.Reader256.Reader.rest c.shake256-reader.result ≡ s = c.shake256-reader.ensures ∙ ap h (append-nil c.args.c.now) in
     let r = ahead c.loop-t.block c.loop-t.pos (g.Reader256.Reader.rest c.loop-t.reader) in (
-      c.draw-place-j.ensures.within,
+      c.draw_place-j.ensures.within,
       omega arith,
       simp (length-set, length-set) c.loop-t.invariant.2,
-      step_next s r _ c.args.p.tau t _ c.draw-place-j.result _ c.loop-t.f _ (omega arith) (omega (arith, c.requires.tau_few)) c.loop-t.invariant.3 c.draw-place-j.ensures.byte c.draw-place-j.ensures.onward
+      step_next s r _ c.args.p.tau t _ c.draw_place-j.result _ c.loop-t.f _ (omega arith) (omega (arith, c.requires.tau_few)) c.loop-t.invariant.3 c.draw_place-j.ensures.byte c.draw_place-j.ensures.onward
           (sign_is s c.squeeze.new.out t (omega (arith, c.requires.tau_few)) (c.squeeze.ensures.bytes ∙ ap (table 8) start)),
     )
 

@@ -36,11 +36,11 @@ draw-preserved g c =
       | then-seen-lt-BLOCK w ↦ (omega (arith, w.bytes-is), omega (arith, w.bytes-is))
       | else-seen-lt-BLOCK w ↦ (omega (arith, w.bytes-is), omega (arith, w.bytes-is))
     ] in (
-      c.draw-next-have.ensures.front ∙ (ap₂ (λ a b. a ++ kept_halves e (at (table n b)) (2 * n)) c.draw.invariant.0 c.draw.invariant.1 ∙
+      c.draw_next-have.ensures.front ∙ (ap₂ (λ a b. a ++ kept_halves e (at (table n b)) (2 * n)) c.draw.invariant.0 c.draw.invariant.1 ∙
           (passing_block (half_byte_fits e) (coeff_from_half_byte e) (half_byte s) (half_byte (at (table n (later m s)))) (2 * m) (2 * n) (half_byte_block s m n) ∙
           ap (kept_halves e s) {x = 2 * m + 2 * n} {y = 2 * (m + n)} (omega arith))),
-      c.draw-next-have.ensures.onward ∙ (ap (later n) c.draw.invariant.1 ∙ fun_ext (λ i. ap s {x = m + (n + i)} {y = m + n + i} (omega arith))),
-      omega (arith, few.0, c.draw-next-have.ensures.count),
+      c.draw_next-have.ensures.onward ∙ (ap (later n) c.draw.invariant.1 ∙ fun_ext (λ i. ap s {x = m + (n + i)} {y = m + n + i} (omega arith))),
+      omega (arith, few.0, c.draw_next-have.ensures.count),
       few.1,
       omega arith,
     )

@@ -22,14 +22,14 @@ loop-i-preserved c =
     let done = take c.args.before c.args.row.now in
     let low = sym (half_byte_low s i) in
     let high = sym (half_byte_high s i) in
-    let b = c.half-byte-fits.result in
-    let row = set c.loop-i.row have c.coeff-from-half-byte.result in
+    let b = c.half_byte_fits.result in
+    let row = set c.loop-i.row have c.coeff_from_half_byte.result in
     let room : have + bool_byte b < length row = simp length-set (omega (arith, counts_one b)) in
-    let first = passing_next (half_byte_fits e) (coeff_from_half_byte e) (half_byte s) (2 * i) b c.coeff-from-half-byte.result have done c.loop-i.row
-    (c.half-byte-fits.ensures ∙ ap (half_byte_fits e) low) (c.coeff-from-half-byte.ensures ∙ ap (coeff_from_half_byte e) low) (omega arith) c.loop-i.invariant.0 in (
-      passing_next (half_byte_fits e) (coeff_from_half_byte e) (half_byte s) (2 * i + 1) c.half-byte-fits-in-loop-i.result c.coeff-from-half-byte-in-loop-i.result (have + bool_byte b) done row
-          (c.half-byte-fits-in-loop-i.ensures ∙ ap (half_byte_fits e) high) (c.coeff-from-half-byte-in-loop-i.ensures ∙ ap (coeff_from_half_byte e) high) room first ∙
+    let first = passing_next (half_byte_fits e) (coeff_from_half_byte e) (half_byte s) (2 * i) b c.coeff_from_half_byte.result have done c.loop-i.row
+    (c.half_byte_fits.ensures ∙ ap (half_byte_fits e) low) (c.coeff_from_half_byte.ensures ∙ ap (coeff_from_half_byte e) low) (omega arith) c.loop-i.invariant.0 in (
+      passing_next (half_byte_fits e) (coeff_from_half_byte e) (half_byte s) (2 * i + 1) c.half_byte_fits-in-loop-i.result c.coeff_from_half_byte-in-loop-i.result (have + bool_byte b) done row
+          (c.half_byte_fits-in-loop-i.ensures ∙ ap (half_byte_fits e) high) (c.coeff_from_half_byte-in-loop-i.ensures ∙ ap (coeff_from_half_byte e) high) room first ∙
           ap (λ n. done ++ kept_halves e s n) {x = 2 * i + 1 + 1} {y = 2 * (i + 1)} (omega arith),
-      omega (arith, counts_one b, counts_one c.half-byte-fits-in-loop-i.result),
+      omega (arith, counts_one b, counts_one c.half_byte_fits-in-loop-i.result),
       simp (length-set, length-set) c.loop-i.invariant.2,
     )

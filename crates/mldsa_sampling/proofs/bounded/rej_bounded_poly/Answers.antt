@@ -19,9 +19,9 @@ returns g c =
     let s = g.H.Hash.hashes.shake256 (c.args.rho.now ++ c.args.n.now) in
     let e = c.args.eta in
     let drawn : take c.draw-have.result c.draw-have.new.row ≡ drawn_halves e s = c.draw-have.ensures.front ∙ ap (drawn_halves e) c.shake256-reader.ensures in
-    let is : c.put-drawn.new.f ≡ table 256 (at (drawn_halves e s)) = c.put-drawn.ensures.row ∙ ap (λ xs. table 256 (at xs)) drawn in
+    let is : c.put_drawn.new.f ≡ table 256 (at (drawn_halves e s)) = c.put_drawn.ensures.row ∙ ap (λ xs. table 256 (at xs)) drawn in
     record {
-      full = c.put-drawn.ensures.full ∙ ap (λ n. eqb n 256) (sym (length-take-le c.draw-have.result c.draw-have.new.row (omega arith)) ∙ ap length drawn);
+      full = c.put_drawn.ensures.full ∙ ap (λ n. eqb n 256) (sym (length-take-le c.draw-have.result c.draw-have.new.row (omega arith)) ∙ ap length drawn);
       row = is;
       below = subst (λ f. T (all_below 8380417 f)) (sym is) (drawn_below e s);
     }

@@ -13,5 +13,5 @@ returns c =
     ap (drop (have - 0)) (c.fill.ensures.after (λ y e. e)) ∙ (drop-replicate (have - 0) (length c.args.f.now) 0 ∙ ap (λ n. replicate n 0) {x = length c.args.f.now - (have - 0)} {y = 256 - length xs} (omega (arith, long, c.told-f))) in
     record {
       full = refl;
-      row = ap₂ (λ (a b : List ℕ). a ++ b) (c.copy-from-slice.ensures.after ∙ ap (λ n. take n row) {x = have - 0} {y = have} (omega arith)) noughts ∙ padded 256 xs (omega (arith, long, c.requires.0));
+      row = ap₂ (λ (a b : List ℕ). a ++ b) (c.copy_from_slice.ensures.after ∙ ap (λ n. take n row) {x = have - 0} {y = have} (omega arith)) noughts ∙ padded 256 xs (omega (arith, long, c.requires.0));
     }

@@ -33,10 +33,10 @@ draw-preserved g c =
       | then-seen-lt-BLOCK w ↦ (omega (arith, w.groups-is), omega (arith, w.groups-is))
       | else-seen-lt-BLOCK w ↦ (omega (arith, w.groups-is), omega (arith, w.groups-is))
     ] in (
-      c.draw-next-have.ensures.front ∙ (ap₂ (λ a b. a ++ kept23 (at (table (3 * n) b)) n) c.draw.invariant.0 c.draw.invariant.1 ∙
+      c.draw_next-have.ensures.front ∙ (ap₂ (λ a b. a ++ kept23 (at (table (3 * n) b)) n) c.draw.invariant.0 c.draw.invariant.1 ∙
           passing_block (λ x. ltb x 8380417) (λ x. x) (candidate23 s) (candidate23 (at (table (3 * n) (later (3 * m) s)))) m n (candidate23_block s m n)),
-      c.draw-next-have.ensures.onward ∙ (ap (later (3 * n)) c.draw.invariant.1 ∙ fun_ext (λ i. ap s {x = 3 * m + (3 * n + i)} {y = 3 * (m + n) + i} (omega arith))),
-      omega (arith, few.0, c.draw-next-have.ensures.count),
+      c.draw_next-have.ensures.onward ∙ (ap (later (3 * n)) c.draw.invariant.1 ∙ fun_ext (λ i. ap s {x = 3 * m + (3 * n + i)} {y = 3 * (m + n) + i} (omega arith))),
+      omega (arith, few.0, c.draw_next-have.ensures.count),
       few.1,
       omega arith,
     )

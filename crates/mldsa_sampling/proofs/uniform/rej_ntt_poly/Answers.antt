@@ -15,9 +15,9 @@ pub returns : goal.returns
 returns g c =
     let s = g.H.Hash.hashes.shake128 (c.args.rho.now ++ c.args.entry.now) in
     let drawn : take c.draw-have.result c.draw-have.new.row ≡ drawn23 s = c.draw-have.ensures.front ∙ ap drawn23 c.shake128-reader.ensures in
-    let is : c.put-drawn.new.f ≡ table 256 (at (drawn23 s)) = c.put-drawn.ensures.row ∙ ap (λ xs. table 256 (at xs)) drawn in
+    let is : c.put_drawn.new.f ≡ table 256 (at (drawn23 s)) = c.put_drawn.ensures.row ∙ ap (λ xs. table 256 (at xs)) drawn in
     record {
-      full = c.put-drawn.ensures.full ∙ ap (λ n. eqb n 256) (sym (length-take-le c.draw-have.result c.draw-have.new.row (omega arith)) ∙ ap length drawn);
+      full = c.put_drawn.ensures.full ∙ ap (λ n. eqb n 256) (sym (length-take-le c.draw-have.result c.draw-have.new.row (omega arith)) ∙ ap length drawn);
       row = is;
       below = subst (λ f. T (all_below 8380417 f)) (sym is) (drawn_below s);
     }

@@ -8,8 +8,8 @@ use Rattle.mldsa_vectors.proofs.encodings.bit_pack_rows.Goals as goal
 pub loop-i-init : goal.loop-i-init
 loop-i-init c = ap (λ n. take n c.args.out.now) {x = 32 * c.args.d * 0} {y = 0} (omega arith) ∙ sym (joined_none _)
 
-pub slice-bounds-bit-pack-end : goal.slice-bounds-bit-pack-end
-slice-bounds-bit-pack-end c = omega (arith, row_ends_lem (32 * c.args.d) c.loop-i.i (length c.args.v.now) (omega arith))
+pub slice_bounds-bit_pack-end : goal.slice_bounds-bit_pack-end
+slice_bounds-bit_pack-end c = omega (arith, row_ends_lem (32 * c.args.d) c.loop-i.i (length c.args.v.now) (omega arith))
 
 pub loop-i-preserved : goal.loop-i-preserved
 loop-i-preserved c =
@@ -17,7 +17,7 @@ loop-i-preserved c =
     let i = c.loop-i.i in
     let f : ℕ → List ℕ = λ j. bit_pack c.args.d c.args.b (row_at c.args.v.now j) in
     let room : w * i + w ≤ length c.loop-i.out = omega (arith, row_ends_lem w i (length c.args.v.now) (omega arith)) in
-    put_row w i (w * i + w - w * i) f c.loop-i.out c.bit-pack.new.out (omega arith) (omega arith) c.bit-pack.ensures c.loop-i.invariant
+    put_row w i (w * i + w - w * i) f c.loop-i.out c.bit_pack.new.out (omega arith) (omega arith) c.bit_pack.ensures c.loop-i.invariant
 
 pub returns : goal.returns
 returns c =

@@ -9,14 +9,14 @@ pub loop-j-init : goal.loop-j-init
 unfolding all_below
 loop-j-init c = (refl, tt, sum_p_none 8380417 _)
 
-pub multiply-add-requires : goal.multiply-add-requires
-multiply-add-requires c =
+pub multiply_add-requires : goal.multiply_add-requires
+multiply_add-requires c =
     record { sum = c.loop-j.invariant.1; first = c.requires.left (c.args.first + c.loop-j.j) (omega arith); second = c.requires.right c.loop-j.j (omega arith) }
 
 pub loop-j-preserved : goal.loop-j-preserved
 loop-j-preserved c =
     let f : ℕ → List ℕ = λ j. multiply_ntt (row_at c.args.a.now (c.args.first + j)) (row_at c.args.s.now j) in
-    (omega arith, c.multiply-add.ensures.below, c.multiply-add.ensures.value ∙ (ap (add_p 8380417 (f c.loop-j.j)) c.loop-j.invariant.2 ∙ sum_p_more 8380417 c.loop-j.j f))
+    (omega arith, c.multiply_add.ensures.below, c.multiply_add.ensures.value ∙ (ap (add_p 8380417 (f c.loop-j.j)) c.loop-j.invariant.2 ∙ sum_p_more 8380417 c.loop-j.j f))
 
 pub returns : goal.returns
 returns c =

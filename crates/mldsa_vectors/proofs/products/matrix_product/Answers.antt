@@ -7,8 +7,8 @@ use Rattle.mldsa_vectors.proofs.products.matrix_product.Goals as goal
 pub loop-i-init : goal.loop-i-init
 loop-i-init c = rows_start 8380417 _ c.args.w.now
 
-pub overflow-mul-s : goal.overflow-mul-s
-overflow-mul-s c = omega (arith, row_ends_lem (length c.args.s.now) c.loop-i.i (length c.args.w.now) (omega arith))
+pub overflow_mul-s : goal.overflow_mul-s
+overflow_mul-s c = omega (arith, row_ends_lem (length c.args.s.now) c.loop-i.i (length c.args.w.now) (omega arith))
 
 pub dot-requires : goal.dot-requires
 dot-requires c =
@@ -17,7 +17,7 @@ dot-requires c =
 pub loop-i-preserved : goal.loop-i-preserved
 loop-i-preserved c =
     rows_next 8380417 _ c.args.w.now c.loop-i.i c.loop-i.w _ (omega arith)
-    (c.ntt-inverse.ensures.value ∙ ap ntt_inv c.dot.ensures.value) c.ntt-inverse.ensures.below c.loop-i.invariant
+    (c.ntt_inverse.ensures.value ∙ ap ntt_inv c.dot.ensures.value) c.ntt_inverse.ensures.below c.loop-i.invariant
 
 pub returns : goal.returns
 returns c =

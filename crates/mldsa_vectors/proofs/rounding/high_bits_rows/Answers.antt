@@ -6,13 +6,13 @@ use Rattle.mldsa_vectors.proofs.rounding.high_bits_rows.Goals as goal
 pub loop-i-init : goal.loop-i-init
 loop-i-init c = rows_start 8380417 _ c.args.v.now
 
-pub high-bits-requires : goal.high-bits-requires
-high-bits-requires c = record { set = c.requires.set; below = rows_waiting 8380417 _ c.args.v.now c.loop-i.i c.loop-i.v (omega arith) c.requires.below c.loop-i.invariant }
+pub high_bits-requires : goal.high_bits-requires
+high_bits-requires c = record { set = c.requires.set; below = rows_waiting 8380417 _ c.args.v.now c.loop-i.i c.loop-i.v (omega arith) c.requires.below c.loop-i.invariant }
 
 pub loop-i-preserved : goal.loop-i-preserved
 loop-i-preserved c =
     rows_next 8380417 _ c.args.v.now c.loop-i.i c.loop-i.v _ (omega arith)
-    (c.high-bits.ensures.value ∙ ap (high_bits_p c.args.gamma2) (c.loop-i.invariant.rest c.loop-i.i (omega arith))) c.high-bits.ensures.below c.loop-i.invariant
+    (c.high_bits.ensures.value ∙ ap (high_bits_p c.args.gamma2) (c.loop-i.invariant.rest c.loop-i.i (omega arith))) c.high_bits.ensures.below c.loop-i.invariant
 
 pub returns : goal.returns
 returns c = rows_end 8380417 _ c.args.v.now c.loop-i.i c.loop-i.v (omega arith) c.loop-i.invariant

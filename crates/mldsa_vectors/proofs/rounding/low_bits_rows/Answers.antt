@@ -6,13 +6,13 @@ use Rattle.mldsa_vectors.proofs.rounding.low_bits_rows.Goals as goal
 pub loop-i-init : goal.loop-i-init
 loop-i-init c = rows_start 8380417 _ c.args.v.now
 
-pub low-bits-requires : goal.low-bits-requires
-low-bits-requires c = record { set = c.requires.set; below = rows_waiting 8380417 _ c.args.v.now c.loop-i.i c.loop-i.v (omega arith) c.requires.below c.loop-i.invariant }
+pub low_bits-requires : goal.low_bits-requires
+low_bits-requires c = record { set = c.requires.set; below = rows_waiting 8380417 _ c.args.v.now c.loop-i.i c.loop-i.v (omega arith) c.requires.below c.loop-i.invariant }
 
 pub loop-i-preserved : goal.loop-i-preserved
 loop-i-preserved c =
     rows_next 8380417 _ c.args.v.now c.loop-i.i c.loop-i.v _ (omega arith)
-    (c.low-bits.ensures.value ∙ ap (low_bits_p c.args.gamma2) (c.loop-i.invariant.rest c.loop-i.i (omega arith))) c.low-bits.ensures.below c.loop-i.invariant
+    (c.low_bits.ensures.value ∙ ap (low_bits_p c.args.gamma2) (c.loop-i.invariant.rest c.loop-i.i (omega arith))) c.low_bits.ensures.below c.loop-i.invariant
 
 pub returns : goal.returns
 returns c = record { value = rows_end 8380417 _ c.args.v.now c.loop-i.i c.loop-i.v (omega arith) c.loop-i.invariant; below = rows-small 8380417 _ c.args.v.now c.loop-i.i c.loop-i.v (omega arith) c.loop-i.invariant }

@@ -8,5 +8,5 @@ pub returns : goal.returns
 returns c =
     let k = c.args.p.k in
     c.differ.ensures ∙ ap₂ same
-    (c.encode-rows.ensures ∙ joined_same k _ _ (λ i l. ap (pack 12) (c.decode-rows.ensures.value i l)))
+    (c.encode_rows.ensures ∙ joined_same k _ _ (λ i l. ap (pack 12) (c.decode_rows.ensures.value i l)))
     (ap (λ n. take n c.args.ek.now) {x = 384 * k - 0} {y = 384 * k} (omega arith))

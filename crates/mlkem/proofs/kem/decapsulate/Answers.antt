@@ -10,8 +10,8 @@ use Rattle.kpke.specs.Matrix.{entry_at}
 use Rattle.mlkem.proofs.Opening.{decaps_is}
 use Rattle.mlkem.proofs.kem.decapsulate.Goals as goal
 
-pub slice-bounds-room-end : goal.slice-bounds-room-end
-slice-bounds-room-end g c = omega (arith, mul-le (32 * c.args.p.du) c.args.p.k 352 4 (omega (arith, c.requires.fits.du_high)) c.requires.fits.few, c.requires.fits.dv_high)
+pub slice_bounds-room-end : goal.slice_bounds-room-end
+slice_bounds-room-end g c = omega (arith, mul-le (32 * c.args.p.du) c.args.p.k 352 4 (omega (arith, c.requires.fits.du_high)) c.requires.fits.few, c.requires.fits.dv_high)
 
 pub encrypt-requires : goal.encrypt-requires
 encrypt-requires g c =
@@ -29,8 +29,8 @@ pub returns : goal.returns
 returns g c =
     let k = c.args.p.k in
     let dk = c.args.dk.now in
-    let out = c.sha3-512-g.result in
-    decaps_is g.H.Hash.hashes (kem_numbers c.args.p) dk c.args.c.now c.decrypt.new.m _ _ _ out _ c.encrypt.new.text c.shake256-into.new.out c.choose.new.x c.differ.result
-    c.decrypt.ensures (part_is dk (768 * k + 32) 32) (part_is dk (384 * k) (384 * k + 32)) (part_rest dk (768 * k + 64) 32 (omega arith)) c.sha3-512-g.ensures
-    (take_all 32 (drop 32 out) (simp length-drop (omega arith))) c.encrypt.ensures c.shake256-into.ensures c.differ.ensures
-    (c.choose.ensures ∙ ap (λ x. cond (eqb c.differ.result 0) x c.shake256-into.new.out) c.copy-from-slice.ensures.after)
+    let out = c.sha3_512-g.result in
+    decaps_is g.H.Hash.hashes (kem_numbers c.args.p) dk c.args.c.now c.decrypt.new.m _ _ _ out _ c.encrypt.new.text c.shake256_into.new.out c.choose.new.x c.differ.result
+    c.decrypt.ensures (part_is dk (768 * k + 32) 32) (part_is dk (384 * k) (384 * k + 32)) (part_rest dk (768 * k + 64) 32 (omega arith)) c.sha3_512-g.ensures
+    (take_all 32 (drop 32 out) (simp length-drop (omega arith))) c.encrypt.ensures c.shake256_into.ensures c.differ.ensures
+    (c.choose.ensures ∙ ap (λ x. cond (eqb c.differ.result 0) x c.shake256_into.new.out) c.copy_from_slice.ensures.after)

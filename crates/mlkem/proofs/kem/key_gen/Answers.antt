@@ -8,8 +8,8 @@ pub returns : goal.returns
 returns g c =
     let h = g.H.Hash.hashes in
     let p = kem_numbers c.args.p in
-    let s = c.key-seeds.ensures in
+    let s = c.key_seeds.ensures in
     let ra = c.if-not-expand.ensures in
-    let ek = ek_is h p _ _ _ _ _ _ s.rho s.sigma (ra.value tt) c.small-rows.ensures.value c.t-rows.ensures _ c.write-ek.ensures in
-    let dk = dk_is h p _ _ _ _ _ _ s.rho s.sigma (ra.value tt) c.small-rows.ensures.value c.t-rows.ensures _ _ _ ek c.write-dk.ensures in
+    let ek = ek_is h p _ _ _ _ _ _ s.rho s.sigma (ra.value tt) c.small_rows.ensures.value c.t_rows.ensures _ c.write_ek.ensures in
+    let dk = dk_is h p _ _ _ _ _ _ s.rho s.sigma (ra.value tt) c.small_rows.ensures.value c.t_rows.ensures _ _ _ ek c.write_dk.ensures in
     record { drawn = ra.drawn ∙ ap (matrix_drawn h p) s.rho; public = ek; secret = dk }

@@ -22,7 +22,7 @@ dot-requires g c =
 pub loop-i-preserved : goal.loop-i-preserved
 loop-i-preserved g c =
     fill_row 4 3329 (t_row g.H.Hash.hashes c.args.p.k c.args.p.eta1 c.args.sigma.now c.args.a.now c.args.s.now) c.loop-i.t c.loop-i.i _ (omega arith)
-    (c.add.ensures.value ∙ ap₂ (add_p 3329) c.dot.ensures.value (c.ntt.ensures.value ∙ ap ntt c.small-poly.ensures.value)) c.add.ensures.below c.loop-i.invariant
+    (c.add.ensures.value ∙ ap₂ (add_p 3329) c.dot.ensures.value (c.ntt.ensures.value ∙ ap ntt c.small_poly.ensures.value)) c.add.ensures.below c.loop-i.invariant
 
 pub returns : goal.returns
 returns g c = λ j h. c.loop-i.invariant.are j (omega arith)

@@ -6,6 +6,6 @@ pub returns : goal.returns
 returns g c =
     let k = c.args.k in
     put_four (384 * k) (768 * k + 32) (768 * k + 64) _ _ _ _ (768 * k + 96) c.args.dk.now
-    c.encode-rows.new.out c.copy-from-slice.new.self c.copy-from-slice-2.new.self c.copy-from-slice-3.new.self _ _ _ _
+    c.encode_rows.new.out c.copy_from_slice.new.self c.copy_from_slice-2.new.self c.copy_from_slice-3.new.self _ _ _ _
     (omega arith) (omega arith) (omega arith) (omega arith) (omega arith) (omega arith) (omega arith) (omega arith)
-    c.encode-rows.ensures c.copy-from-slice.ensures.after (c.copy-from-slice-2.ensures.after ∙ c.sha3-256-h.ensures) c.copy-from-slice-3.ensures.after
+    c.encode_rows.ensures c.copy_from_slice.ensures.after (c.copy_from_slice-2.ensures.after ∙ c.sha3_256-h.ensures) c.copy_from_slice-3.ensures.after

@@ -4,5 +4,5 @@ use Rattle.mlkem.proofs.kem.write_ek.Goals as goal
 
 pub returns : goal.returns
 returns c =
-    put_two (384 * c.args.k) _ _ (384 * c.args.k + 32) c.args.ek.now c.encode-rows.new.out c.copy-from-slice.new.self _ _ (omega arith) (omega arith) (omega arith) (omega arith)
-    c.encode-rows.ensures c.copy-from-slice.ensures.after
+    put_two (384 * c.args.k) _ _ (384 * c.args.k + 32) c.args.ek.now c.encode_rows.new.out c.copy_from_slice.new.self _ _ (omega arith) (omega arith) (omega arith) (omega arith)
+    c.encode_rows.ensures c.copy_from_slice.ensures.after

@@ -5,8 +5,8 @@ use Rattle.algebra.proofs.Tables.{at_below, below_table}
 use Rattle.algebra.proofs.Words.{filled_all}
 use Rattle.mlkem_parts.proofs.rounding.compress.Goals as goal
 
-pub compress-number-requires : goal.compress-number-requires
-compress-number-requires c =
+pub compress_number-requires : goal.compress_number-requires
+compress_number-requires c =
     let f = c.args.f.now in
     (c.requires.0, subst (λ x. x < 3329) (sym (c.loop-i.invariant.rest c.loop-i.i (omega arith))) (at_below 3329 f c.loop-i.i c.requires.1 (omega arith)))
 

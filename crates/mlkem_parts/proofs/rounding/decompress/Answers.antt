@@ -5,8 +5,8 @@ use Rattle.algebra.proofs.Words.{filled_all}
 use Rattle.mlkem_parts.proofs.Numbers.{decompress_below}
 use Rattle.mlkem_parts.proofs.rounding.decompress.Goals as goal
 
-pub decompress-number-requires : goal.decompress-number-requires
-decompress-number-requires c =
+pub decompress_number-requires : goal.decompress_number-requires
+decompress_number-requires c =
     let f = c.args.f.now in
     (c.requires.0, subst (λ x. x < 2 ^ c.args.d) (sym (c.loop-i.invariant.rest c.loop-i.i (omega arith))) (at_below (2 ^ c.args.d) f c.loop-i.i c.requires.1 (omega arith)))
 

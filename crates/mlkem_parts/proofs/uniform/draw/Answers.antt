@@ -31,9 +31,9 @@ draw-preserved g c =
       | then-seen-lt-BLOCK w ↦ (omega (arith, w.groups-is), omega (arith, w.groups-is))
       | else-seen-lt-BLOCK w ↦ (omega (arith, w.groups-is), omega (arith, w.groups-is))
     ] in (
-      c.draw-next-have.ensures.front ∙ (ap₂ (λ a b. a ++ kept12 (at (table (3 * n) b)) (2 * n)) c.draw.invariant.0 c.draw.invariant.1 ∙ block_next s m n),
-      c.draw-next-have.ensures.onward ∙ (ap (later (3 * n)) c.draw.invariant.1 ∙ fun_ext (λ i. ap s {x = 3 * m + (3 * n + i)} {y = 3 * (m + n) + i} (omega arith))),
-      omega (arith, few.0, c.draw-next-have.ensures.count),
+      c.draw_next-have.ensures.front ∙ (ap₂ (λ a b. a ++ kept12 (at (table (3 * n) b)) (2 * n)) c.draw.invariant.0 c.draw.invariant.1 ∙ block_next s m n),
+      c.draw_next-have.ensures.onward ∙ (ap (later (3 * n)) c.draw.invariant.1 ∙ fun_ext (λ i. ap s {x = 3 * m + (3 * n + i)} {y = 3 * (m + n) + i} (omega arith))),
+      omega (arith, few.0, c.draw_next-have.ensures.count),
       few.1,
       omega arith,
     )

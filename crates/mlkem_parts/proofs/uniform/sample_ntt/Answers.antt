@@ -15,7 +15,7 @@ pub returns-in-Some : goal.returns-in-Some
 returns-in-Some g c =
     let s = g.H.Hash.hashes.shake128 (c.args.rho.now ++ c.args.entry.now) in
     let drawn : take 256 c.draw.new.row ≡ drawn12 s = c.in-Some.ensures ∙ ap drawn12 c.shake128-reader.ensures in
-    let is : c.copy-from-slice.new.self ≡ drawn12 s = c.copy-from-slice.ensures.after ∙ drawn in
+    let is : c.copy_from_slice.new.self ≡ drawn12 s = c.copy_from_slice.ensures.after ∙ drawn in
     record {
       full = sym (eq-eqb (length (drawn12 s)) 256 (ap length (sym drawn) ∙ length-take-le 256 c.draw.new.row (omega arith)));
       value = λ _. is;

@@ -6,12 +6,12 @@ use Rattle.algebra.proofs.Parts.{fill_next, filled}
 use Rattle.algebra.proofs.Packing.{unpack_eight, below_unpack}
 use Rattle.packing.proofs.eights.unpack_eights.Goals as goal
 
-pub slice-bounds-unpack-eight-end : goal.slice-bounds-unpack-eight-end
-slice-bounds-unpack-eight-end g c = omega (arith, mul-le-mul_left {m = c.loop-g.g + 1} {n = 32} g.row.D (omega arith))
+pub slice_bounds-unpack_eight-end : goal.slice_bounds-unpack_eight-end
+slice_bounds-unpack_eight-end g c = omega (arith, mul-le-mul_left {m = c.loop-g.g + 1} {n = 32} g.row.D (omega arith))
 
-pub set-eight-requires : goal.set-eight-requires
-set-eight-requires g c =
-    (omega arith, subst (λ x. T (all_below (2 ^ g.C.Coefficients.room) x)) (sym c.unpack-eight-x.ensures) (below_weaker (2 ^ g.row.D) (2 ^ g.C.Coefficients.room) _ (pow_mono c.requires.1.1.0) (below_unpack g.row.D 8 _)))
+pub set_eight-requires : goal.set_eight-requires
+set_eight-requires g c =
+    (omega arith, subst (λ x. T (all_below (2 ^ g.C.Coefficients.room) x)) (sym c.unpack_eight-x.ensures) (below_weaker (2 ^ g.row.D) (2 ^ g.C.Coefficients.room) _ (pow_mono c.requires.1.1.0) (below_unpack g.row.D 8 _)))
 
 pub loop-g-init : goal.loop-g-init
 loop-g-init g c = (ap (λ k. take k (g.C.Coefficients.numbers c.args.f.now)) {x = 8 * 0} {y = 0} (omega arith), λ h. absurd (omega arith))
@@ -22,9 +22,9 @@ loop-g-preserved g c =
     let bs = c.args.bs.now in
     let i = c.loop-g.g in
     let part : take (d * i + d - d * i) (drop (d * i) bs) ≡ take d (drop (d * i) bs) = ap (λ k. take k (drop (d * i) bs)) (omega arith) in
-    let numbers : c.unpack-eight-x.result ≡ take 8 (drop (8 * i) (unpack d 256 bs)) = c.unpack-eight-x.ensures ∙ (ap (unpack d 8) part ∙ unpack_eight d 32 i bs (omega arith) (omega arith)) in (
-      ap (take (8 * (i + 1))) c.set-eight.ensures.after ∙ fill_next 8 i (g.C.Coefficients.numbers c.loop-g.f) c.unpack-eight-x.result _ (unpack d 256 bs) (ap length c.unpack-eight-x.ensures ∙ length-table 8 _) (omega (arith, length-table 256 (λ i. sum_to d (λ j. bit bs (i * d + j) * 2 ^ j)))) c.loop-g.invariant.0 numbers,
-      λ _. c.set-eight.ensures.all,
+    let numbers : c.unpack_eight-x.result ≡ take 8 (drop (8 * i) (unpack d 256 bs)) = c.unpack_eight-x.ensures ∙ (ap (unpack d 8) part ∙ unpack_eight d 32 i bs (omega arith) (omega arith)) in (
+      ap (take (8 * (i + 1))) c.set_eight.ensures.after ∙ fill_next 8 i (g.C.Coefficients.numbers c.loop-g.f) c.unpack_eight-x.result _ (unpack d 256 bs) (ap length c.unpack_eight-x.ensures ∙ length-table 8 _) (omega (arith, length-table 256 (λ i. sum_to d (λ j. bit bs (i * d + j) * 2 ^ j)))) c.loop-g.invariant.0 numbers,
+      λ _. c.set_eight.ensures.all,
     )
 
 pub returns : goal.returns

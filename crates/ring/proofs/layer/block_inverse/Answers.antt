@@ -5,8 +5,8 @@ use Rattle.ring.proofs.layer.block_inverse.Goals as goal
 pub loop-d-init : goal.loop-d-init
 loop-d-init g c = block_none _ _ c.args.start c.args.len _ c.requires.poly.0
 
-pub gentleman-sande-x-requires : goal.gentleman-sande-x-requires
-gentleman-sande-x-requires g c = (
+pub gentleman_sande-x-requires : goal.gentleman_sande-x-requires
+gentleman_sande-x-requires g c = (
   c.requires.factor,
   words_below g.F.Modular.value _ _ c.args.start c.args.len c.loop-d.d c.args.f.now c.loop-d.f c.loop-d.invariant c.loop-d-test.true c.requires.fits _ g.met.F.Modular.positive c.requires.poly _ _,
 )
@@ -14,4 +14,4 @@ gentleman-sande-x-requires g c = (
 pub loop-d-preserved : goal.loop-d-preserved
 loop-d-preserved g c =
     words_more g.F.Modular.value _ _ c.args.start c.args.len c.loop-d.d c.args.f.now c.loop-d.f c.loop-d.invariant c.loop-d-test.true c.requires.fits _ _
-    c.gentleman-sande-x.result.0 c.gentleman-sande-x.result.1 c.gentleman-sande-x.ensures.low c.gentleman-sande-x.ensures.high
+    c.gentleman_sande-x.result.0 c.gentleman_sande-x.result.1 c.gentleman_sande-x.ensures.low c.gentleman_sande-x.ensures.high

@@ -9,8 +9,8 @@ use Rattle.ring.proofs.layer.layer.Goals as goal
 pub loop-b-init : goal.loop-b-init
 loop-b-init g c = layer_to_none _ _ _ _ _
 
-pub offset-bounds-zetas-blocks : goal.offset-bounds-zetas-blocks
-offset-bounds-zetas-blocks g c = omega (arith, (layer_shape c.args.l c.requires.few).blocks, length-map c.args.zetas.now g.F.Modular.value)
+pub offset_bounds-zetas-blocks : goal.offset_bounds-zetas-blocks
+offset_bounds-zetas-blocks g c = omega (arith, (layer_shape c.args.l c.requires.few).blocks, length-map c.args.zetas.now g.F.Modular.value)
 
 pub bounds-zetas-blocks : goal.bounds-zetas-blocks
 bounds-zetas-blocks g c = omega (arith, (layer_shape c.args.l c.requires.few).blocks, length-map c.args.zetas.now g.F.Modular.value)

@@ -9,14 +9,14 @@ use Rattle.ring.proofs.layer.layer_inverse.Goals as goal
 pub loop-b-init : goal.loop-b-init
 loop-b-init g c = layer_to_none _ _ _ _ _
 
-pub offset-bounds-zetas-blocks : goal.offset-bounds-zetas-blocks
-offset-bounds-zetas-blocks g c = omega (arith, (layer_shape c.args.l c.requires.few).blocks, length-map c.args.zetas.now g.F.Modular.value)
+pub offset_bounds-zetas-blocks : goal.offset_bounds-zetas-blocks
+offset_bounds-zetas-blocks g c = omega (arith, (layer_shape c.args.l c.requires.few).blocks, length-map c.args.zetas.now g.F.Modular.value)
 
 pub bounds-zetas-blocks : goal.bounds-zetas-blocks
 bounds-zetas-blocks g c = omega (arith, (layer_shape c.args.l c.requires.few).blocks, length-map c.args.zetas.now g.F.Modular.value)
 
-pub block-inverse-requires : goal.block-inverse-requires
-block-inverse-requires g c =
+pub block_inverse-requires : goal.block_inverse-requires
+block_inverse-requires g c =
     let v = g.F.Modular.value in
     let q = g.F.Modular.q in
     let s = layer_shape c.args.l c.requires.few in (
@@ -36,4 +36,4 @@ loop-b-preserved g c =
     let s = layer_shape c.args.l c.requires.few in
     layer_to_more _ _ _ _ c.loop-b.b _ _ _ _
     (read_is v c.args.zetas.now _ c.index-zetas-blocks.result c.index-zetas-blocks.is (omega (arith, s.blocks, length-map c.args.zetas.now v)) ∙ ap (λ x. at (map v c.args.zetas.now) (2 * x - 1 - c.loop-b.b)) s.blocks)
-    c.loop-b.invariant c.block-inverse.ensures
+    c.loop-b.invariant c.block_inverse.ensures

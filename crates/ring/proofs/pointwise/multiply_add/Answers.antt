@@ -4,18 +4,18 @@ use Rattle.algebra.proofs.Tables.{at_table}
 use Rattle.algebra.proofs.Words.{rest_is, rest_below, other_is, other_below, filled_more, filled_all}
 use Rattle.ring.proofs.pointwise.multiply_add.Goals as goal
 
-pub mul-mod-requires : goal.mul-mod-requires
-mul-mod-requires g c =
+pub mul_mod-requires : goal.mul_mod-requires
+mul_mod-requires g c =
     let v = g.F.Modular.value in
     let pos = g.met.F.Modular.positive in (
       other_below v _ pos c.args.f.now c.requires.first c.loop-i.i c.loop-i-test.true _,
       other_below v _ pos c.args.g.now c.requires.second c.loop-i.i c.loop-i-test.true _,
     )
 
-pub add-mod-requires : goal.add-mod-requires
-add-mod-requires g c =
+pub add_mod-requires : goal.add_mod-requires
+add_mod-requires g c =
     let pos = g.met.F.Modular.positive in (
-      rw c.mul-mod.ensures (mod-lt _ pos),
+      rw c.mul_mod.ensures (mod-lt _ pos),
       rest_below g.F.Modular.value _ c.args.out.now c.loop-i.out c.loop-i.i c.loop-i.invariant c.loop-i-test.true _ pos c.requires.sum _,
     )
 
@@ -26,8 +26,8 @@ loop-i-preserved g c =
     let x = other_is v _ c.args.f.now c.requires.first c.loop-i.i c.loop-i-test.true _ in
     let y = other_is v _ c.args.g.now c.requires.second c.loop-i.i c.loop-i-test.true _ in
     let s = rest_is v _ c.args.out.now c.loop-i.out c.loop-i.i c.loop-i.invariant c.loop-i-test.true _ in
-    filled_more v _ _ c.loop-i.i c.loop-i.out c.add-mod.result c.loop-i-test.true
-    (c.add-mod.ensures ∙ ap₂ (add_m q) (c.mul-mod.ensures ∙ (ap₂ (mul_m q) x y ∙ sym (at_table 256 _ c.loop-i.i c.loop-i-test.true))) s) c.loop-i.invariant
+    filled_more v _ _ c.loop-i.i c.loop-i.out c.add_mod.result c.loop-i-test.true
+    (c.add_mod.ensures ∙ ap₂ (add_m q) (c.mul_mod.ensures ∙ (ap₂ (mul_m q) x y ∙ sym (at_table 256 _ c.loop-i.i c.loop-i-test.true))) s) c.loop-i.invariant
 
 pub returns : goal.returns
 returns g c = filled_all _ _ _ c.loop-i.i (omega arith) c.loop-i.invariant

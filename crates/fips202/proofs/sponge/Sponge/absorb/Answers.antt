@@ -11,14 +11,14 @@ pub loop-done-preserved : goal.loop-done-preserved
 loop-done-preserved g c =
     let part = c.args.part.now in
     let i = c.loop-done.done in
-    let n = c.absorb-some-done.result in
+    let n = c.absorb_some-done.result in
     let was = c.args.self.now in
     let s = c.loop-done.self in
-    let t = c.absorb-some-done.new.self in
+    let t = c.absorb_some-done.new.self in
     let rest : take n (take (length part - i) (drop i part)) ≡ take n (drop i part) = ap (take n) (take_rest part i) in (
       omega arith,
       subst (λ bs. Absorbs g.row.RATE was.lanes was.place bs t.lanes t.place) (ap (λ bs. take i part ++ bs) rest ∙ sym (take-add i n part))
-          (absorbs_both g.row.RATE was.lanes was.place (take i part) s.lanes s.place _ t.lanes t.place c.loop-done.invariant.1 c.absorb-some-done.ensures.absorbs),
+          (absorbs_both g.row.RATE was.lanes was.place (take i part) s.lanes s.place _ t.lanes t.place c.loop-done.invariant.1 c.absorb_some-done.ensures.absorbs),
     )
 
 pub returns : goal.returns

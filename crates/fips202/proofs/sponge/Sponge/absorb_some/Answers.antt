@@ -24,7 +24,7 @@ returns-then-left-ge8 g c =
       within = omega arith;
       absorbs = λ suffix m.
           c.advance.ensures suffix m ∙
-          (ap₂ (λ (b : List ℕ) (p : ℕ). absorbed_from rate suffix b p m) {u = place + n} {v = 8 * first + length bs} (c.mix-lanes.ensures ∙ ap (λ k. mixed_lanes a first (take k part)) cut) (omega arith) ∙
+          (ap₂ (λ (b : List ℕ) (p : ℕ). absorbed_from rate suffix b p m) {u = place + n} {v = 8 * first + length bs} (c.mix_lanes.ensures ∙ ap (λ k. mixed_lanes a first (take k part)) cut) (omega arith) ∙
           (absorbs_lanes rate first (n / 8) a bs (long ∙ whole) (omega arith) suffix m ∙
           ap (λ p. absorbed_from rate suffix a p (bs ++ m)) start));
     }
@@ -44,7 +44,7 @@ returns-else-self-eq0 g c =
       within = c.requires;
       absorbs = λ suffix m.
           c.advance-else-self-eq0.ensures suffix m ∙
-          (ap (λ xs. absorbed_from rate suffix xs (place + 1) m) c.mix-byte.ensures ∙
-          (absorbs_byte rate place b a long (omega arith) (omega arith) (omega (arith, c.type-inv.part 0)) suffix m ∙
+          (ap (λ xs. absorbed_from rate suffix xs (place + 1) m) c.mix_byte.ensures ∙
+          (absorbs_byte rate place b a long (omega arith) (omega arith) (omega (arith, c.type_inv.part 0)) suffix m ∙
           ap (λ xs. absorbed_from rate suffix a place (xs ++ m)) (sym one)));
     }

@@ -19,7 +19,7 @@ loop-done-preserved g c =
     let f : ℕ → ℕ = read_from g.row.RATE c.args.self.now.lanes c.args.self.now.place in
     let i = c.loop-done.done in
     let out = c.loop-done.out in
-    let call = c.squeeze-some-done in
+    let call = c.squeeze_some-done in
     let n = call.result in
     let inv = c.loop-done.invariant in (
       omega (arith, length_put i (length out - i) out call.new.out (omega arith) (omega arith)),

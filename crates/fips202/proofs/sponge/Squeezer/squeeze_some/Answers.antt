@@ -14,7 +14,7 @@ returns g c =
       some = omega arith;
       within = omega arith;
       bytes =
-          read_part g.row.RATE s.place n s.lanes c.unpacked-bytes.result c.copy-from-slice.new.self _ (omega arith) (omega arith) c.unpacked-bytes.ensures c.copy-from-slice.ensures.after ∙
+          read_part g.row.RATE s.place n s.lanes c.unpacked-bytes.result c.copy_from_slice.new.self _ (omega arith) (omega arith) c.unpacked-bytes.ensures c.copy_from_slice.ensures.after ∙
           ap (table n) c.turn.ensures.same;
       onward = read_later g.row.RATE s.lanes s.place n ∙ ap (later n) c.turn.ensures.same;
     }

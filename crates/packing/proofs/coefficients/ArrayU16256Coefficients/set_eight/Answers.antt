@@ -6,8 +6,8 @@ use Rattle.packing.proofs.coefficients.ArrayU16256Coefficients.set_eight.Goals a
 pub loop-i-init : goal.loop-i-init
 loop-i-init c = (omega arith, written_none)
 
-pub overflow-cast-self : goal.overflow-cast-self
-overflow-cast-self c = omega (arith, at_below (2 ^ 16) c.args.x.now c.loop-i.i c.requires.1 (omega arith))
+pub overflow_cast-self : goal.overflow_cast-self
+overflow_cast-self c = omega (arith, at_below (2 ^ 16) c.args.x.now c.loop-i.i c.requires.1 (omega arith))
 
 pub loop-i-preserved : goal.loop-i-preserved
 loop-i-preserved c = let w = written_next (omega arith) (omega arith) c.loop-i.invariant.1 in (omega (arith, w.long), w)

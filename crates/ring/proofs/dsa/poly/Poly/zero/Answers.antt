@@ -2,9 +2,9 @@ use Rattle.std.proofs.Common.{refl}
 use Rattle.standards.specs.Lists.{from, all_below}
 use Rattle.ring.proofs.dsa.poly.Poly.zero.Goals as goal
 
-pub invariant-of-result : goal.invariant-of-result
+pub invariant_of-result : goal.invariant_of-result
 unfolding all_below
-invariant-of-result c = (tt, tt)
+invariant_of-result c = (tt, tt)
 
 pub returns : goal.returns
 unfolding from

@@ -2,7 +2,7 @@
 use Rattle.std.proofs.Common.{◌≡◌, ℕ, ◌+◌, ◌/◌, ◌%◌, ◌<◌, Bool, true, false, cond, ◌&&◌, ltb, List, [], ◌∷◌, ◌++◌, length, drop, sym, refl, ap, ◌∙◌, append_assoc}
 use Rattle.std.proofs.lemmas.List.{drop_more}
 use Rattle.standards.specs.Lists.{at, all_below}
-use Rattle.hex.specs.Hex.{digit_of, hex_of, value_of, is_space, values_of}
+use Rattle.hex_digits.specs.Hex.{digit_of, hex_of, value_of, is_space, values_of}
 
 pub hex_next : (done bytes : List ℕ) (i : ℕ) → i < length bytes →
     ((done ++ digit_of (at bytes i / 16) ∷ []) ++ digit_of (at bytes i % 16) ∷ []) ++ hex_of (drop (i + 1) bytes) ≡ done ++ hex_of (drop i bytes)

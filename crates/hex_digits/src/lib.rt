@@ -1,7 +1,9 @@
 // Bytes to hexadecimal digits and back.
+#![tactic(auto)]
+
 ghost use Rattle.std.specs.Prelude.{◌≡◌, ℕ, ◌+◌, ◌*◌, ◌/◌, ◌%◌, ◌<◌, ◌≤◌, false, T, List, ◌++◌, length, IfOk, MatchOption, OnOk};
 ghost use Rattle.standards.specs.Lists.{all_below};
-ghost use Rattle.hex.specs.Hex.{digit_of, hex_of, value_of, is_space, values_of, is_hex, paired, bytes_of};
+ghost use Rattle.hex_digits.specs.Hex.{digit_of, hex_of, value_of, is_space, values_of, is_hex, paired, bytes_of};
 
 use std::alloc::{AllocError, Global};
 

@@ -1,6 +1,6 @@
 use Rattle.std.proofs.Common.{◌≡◌, ◌+◌, ◌*◌, vec_items}
 use Rattle.standards.specs.Lists.{table, at}
-use Rattle.hex.proofs.join.Given as goal
+use Rattle.hex_digits.proofs.join.Given as goal
 
 abbrev pub invariant-loop-i : goal.invariant-loop-i
 invariant-loop-i l = vec_items l.bytes ≡ table l.i (λ i. 16 * at l.digits (2 * i) + at l.digits (2 * i + 1))
