@@ -6,9 +6,9 @@ use crate::number::Modular;
 
 // Cooley and Tukey's, of the transform: x + z y and x - z y.
 pub fn cooley_tukey<F: Modular>(z: F, x: F, y: F) -> (F, F)
-    requires { (value z < q) × ((value x < q) × (value y < q)) }
-    ensures low { value result.0 ≡ ct_low q (value z) (value x) (value y) }
-    ensures high { value result.1 ≡ ct_high q (value z) (value x) (value y) }
+    requires { (F.value z < F.q) × ((F.value x < F.q) × (F.value y < F.q)) }
+    ensures low { F.value result.0 ≡ ct_low F.q (F.value z) (F.value x) (F.value y) }
+    ensures high { F.value result.1 ≡ ct_high F.q (F.value z) (F.value x) (F.value y) }
 {
     let t = z.mul_mod(y);
     (x.add_mod(t), x.sub_mod(t))
@@ -16,9 +16,9 @@ pub fn cooley_tukey<F: Modular>(z: F, x: F, y: F) -> (F, F)
 
 // Gentleman and Sande's, of the inverse: x + y and z (y - x).
 pub fn gentleman_sande<F: Modular>(z: F, x: F, y: F) -> (F, F)
-    requires { (value z < q) × ((value x < q) × (value y < q)) }
-    ensures low { value result.0 ≡ gs_low q (value z) (value x) (value y) }
-    ensures high { value result.1 ≡ gs_high q (value z) (value x) (value y) }
+    requires { (F.value z < F.q) × ((F.value x < F.q) × (F.value y < F.q)) }
+    ensures low { F.value result.0 ≡ gs_low F.q (F.value z) (F.value x) (F.value y) }
+    ensures high { F.value result.1 ≡ gs_high F.q (F.value z) (F.value x) (F.value y) }
 {
     let t = y.sub_mod(x);
     (x.add_mod(y), z.mul_mod(t))

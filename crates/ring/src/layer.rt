@@ -10,9 +10,9 @@ use crate::number::Modular;
 // One block: its butterflies take two numbers that stand `len` apart.
 fn block<F: Modular>(f: &mut [F; 256], start: usize, len: usize, z: F)
     requires fits { start + 2 * len ≤ 256 }
-    requires factor { value z < q }
-    requires poly { Poly q (map value f.old) }
-    ensures { map value f.new ≡ block_to (ct_low q (value z)) (ct_high q (value z)) start len len (map value f.old) }
+    requires factor { F.value z < F.q }
+    requires poly { Poly F.q (map F.value f.old) }
+    ensures { map F.value f.new ≡ block_to (ct_low F.q (F.value z)) (ct_high F.q (F.value z)) start len len (map F.value f.old) }
 {
     for d in 0..len {
         let (x, y) = cooley_tukey(z, f[start + d], f[start + len + d]);
@@ -24,9 +24,9 @@ fn block<F: Modular>(f: &mut [F; 256], start: usize, len: usize, z: F)
 // The same with the butterfly of the inverse.
 fn block_inverse<F: Modular>(f: &mut [F; 256], start: usize, len: usize, z: F)
     requires fits { start + 2 * len ≤ 256 }
-    requires factor { value z < q }
-    requires poly { Poly q (map value f.old) }
-    ensures { map value f.new ≡ block_to (gs_low q (value z)) (gs_high q (value z)) start len len (map value f.old) }
+    requires factor { F.value z < F.q }
+    requires poly { Poly F.q (map F.value f.old) }
+    ensures { map F.value f.new ≡ block_to (gs_low F.q (F.value z)) (gs_high F.q (F.value z)) start len len (map F.value f.old) }
 {
     for d in 0..len {
         let (x, y) = gentleman_sande(z, f[start + d], f[start + len + d]);
@@ -38,9 +38,9 @@ fn block_inverse<F: Modular>(f: &mut [F; 256], start: usize, len: usize, z: F)
 // Layer l of the transform: 2^l blocks, whose factors follow one another in the table.
 pub fn layer<F: Modular>(f: &mut [F; 256], zetas: &[F], l: usize)
     requires few { l < 8 }
-    requires factors { Factors q (2 * 2 ^ l) (map value zetas.now) }
-    requires poly { Poly q (map value f.old) }
-    ensures { map value f.new ≡ layer_to (ct_low q) (ct_high q) (λ m. at (map value zetas.now) (2 ^ l + m)) (128 / 2 ^ l) (2 ^ l) (map value f.old) }
+    requires factors { Factors F.q (2 * 2 ^ l) (map F.value zetas.now) }
+    requires poly { Poly F.q (map F.value f.old) }
+    ensures { map F.value f.new ≡ layer_to (ct_low F.q) (ct_high F.q) (λ m. at (map F.value zetas.now) (2 ^ l + m)) (128 / 2 ^ l) (2 ^ l) (map F.value f.old) }
 {
     let len = 128 >> l;
     let blocks = 1 << l;
@@ -52,9 +52,9 @@ pub fn layer<F: Modular>(f: &mut [F; 256], zetas: &[F], l: usize)
 // The same for the inverse, with the factors of the layer from the last one down.
 pub fn layer_inverse<F: Modular>(f: &mut [F; 256], zetas: &[F], l: usize)
     requires few { l < 8 }
-    requires factors { Factors q (2 * 2 ^ l) (map value zetas.now) }
-    requires poly { Poly q (map value f.old) }
-    ensures { map value f.new ≡ layer_to (gs_low q) (gs_high q) (λ m. at (map value zetas.now) (2 * 2 ^ l - 1 - m)) (128 / 2 ^ l) (2 ^ l) (map value f.old) }
+    requires factors { Factors F.q (2 * 2 ^ l) (map F.value zetas.now) }
+    requires poly { Poly F.q (map F.value f.old) }
+    ensures { map F.value f.new ≡ layer_to (gs_low F.q) (gs_high F.q) (λ m. at (map F.value zetas.now) (2 * 2 ^ l - 1 - m)) (128 / 2 ^ l) (2 ^ l) (map F.value f.old) }
 {
     let len = 128 >> l;
     let blocks = 1 << l;

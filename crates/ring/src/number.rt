@@ -2,7 +2,7 @@
 // All that follows is written once over this trait. A faster way of reducing changes nothing but the bodies here.
 ghost use Rattle.std.specs.Prelude.{◌≡◌, ℕ, ◌<◌};
 ghost use Rattle.algebra.specs.Modular.{add_m, sub_m, mul_m};
-ghost use Rattle.std.proofs.Common.{rules};
+ghost use Rattle.std.proofs.Common.{lit<};
 
 pub trait Modular: Copy {
     // the modulus, and the number that a word stands for
@@ -31,7 +31,7 @@ impl Modular for u16 {
 
     ghost value = { λ x. x };
 
-    ghost positive = { Prim.search rules };
+    ghost positive = { lit< tt };
 
     fn add_mod(self, other: u16) -> u16 {
         (self + other) % 3329
@@ -52,7 +52,7 @@ impl Modular for u32 {
 
     ghost value = { λ x. x };
 
-    ghost positive = { Prim.search rules };
+    ghost positive = { lit< tt };
 
     fn add_mod(self, other: u32) -> u32 {
         (self + other) % 8380417

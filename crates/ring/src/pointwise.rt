@@ -7,9 +7,9 @@ use crate::number::Modular;
 
 // f := f + g
 pub fn add<F: Modular>(f: &mut [F; 256], g: &[F; 256])
-    requires first { Poly q (map value f.old) }
-    requires second { Poly q (map value g.now) }
-    ensures { map value f.new ≡ add_p q (map value f.old) (map value g.now) }
+    requires first { Poly F.q (map F.value f.old) }
+    requires second { Poly F.q (map F.value g.now) }
+    ensures { map F.value f.new ≡ add_p F.q (map F.value f.old) (map F.value g.now) }
 {
     for i in 0..256 {
         f[i] = f[i].add_mod(g[i]);
@@ -18,9 +18,9 @@ pub fn add<F: Modular>(f: &mut [F; 256], g: &[F; 256])
 
 // f := f - g
 pub fn sub<F: Modular>(f: &mut [F; 256], g: &[F; 256])
-    requires first { Poly q (map value f.old) }
-    requires second { Poly q (map value g.now) }
-    ensures { map value f.new ≡ sub_p q (map value f.old) (map value g.now) }
+    requires first { Poly F.q (map F.value f.old) }
+    requires second { Poly F.q (map F.value g.now) }
+    ensures { map F.value f.new ≡ sub_p F.q (map F.value f.old) (map F.value g.now) }
 {
     for i in 0..256 {
         f[i] = f[i].sub_mod(g[i]);
@@ -29,9 +29,9 @@ pub fn sub<F: Modular>(f: &mut [F; 256], g: &[F; 256])
 
 // f := f g, number by number
 pub fn multiply<F: Modular>(f: &mut [F; 256], g: &[F; 256])
-    requires first { Poly q (map value f.old) }
-    requires second { Poly q (map value g.now) }
-    ensures { map value f.new ≡ mul_each q (map value f.old) (map value g.now) }
+    requires first { Poly F.q (map F.value f.old) }
+    requires second { Poly F.q (map F.value g.now) }
+    ensures { map F.value f.new ≡ mul_each F.q (map F.value f.old) (map F.value g.now) }
 {
     for i in 0..256 {
         f[i] = f[i].mul_mod(g[i]);
@@ -40,10 +40,10 @@ pub fn multiply<F: Modular>(f: &mut [F; 256], g: &[F; 256])
 
 // out := f g + out, number by number
 pub fn multiply_add<F: Modular>(out: &mut [F; 256], f: &[F; 256], g: &[F; 256])
-    requires sum { Poly q (map value out.old) }
-    requires first { Poly q (map value f.now) }
-    requires second { Poly q (map value g.now) }
-    ensures { map value out.new ≡ add_p q (mul_each q (map value f.now) (map value g.now)) (map value out.old) }
+    requires sum { Poly F.q (map F.value out.old) }
+    requires first { Poly F.q (map F.value f.now) }
+    requires second { Poly F.q (map F.value g.now) }
+    ensures { map F.value out.new ≡ add_p F.q (mul_each F.q (map F.value f.now) (map F.value g.now)) (map F.value out.old) }
 {
     for i in 0..256 {
         out[i] = f[i].mul_mod(g[i]).add_mod(out[i]);
@@ -52,9 +52,9 @@ pub fn multiply_add<F: Modular>(out: &mut [F; 256], f: &[F; 256], g: &[F; 256])
 
 // f := c f
 pub fn scale<F: Modular>(f: &mut [F; 256], c: F)
-    requires factor { value c < q }
-    requires poly { Poly q (map value f.old) }
-    ensures { map value f.new ≡ scaled q (value c) (map value f.old) }
+    requires factor { F.value c < F.q }
+    requires poly { Poly F.q (map F.value f.old) }
+    ensures { map F.value f.new ≡ scaled F.q (F.value c) (map F.value f.old) }
 {
     for i in 0..256 {
         f[i] = c.mul_mod(f[i]);

@@ -9,9 +9,9 @@ use crate::number::Modular;
 // The layer with the longest blocks comes first.
 pub fn forward<F: Modular>(f: &mut [F; 256], zetas: &[F], layers: usize)
     requires few { layers ≤ 8 }
-    requires factors { Factors q (2 ^ layers) (map value zetas.now) }
-    requires poly { Poly q (map value f.old) }
-    ensures { map value f.new ≡ forward_layers q (map value zetas.now) layers (map value f.old) }
+    requires factors { Factors F.q (2 ^ layers) (map F.value zetas.now) }
+    requires poly { Poly F.q (map F.value f.old) }
+    ensures { map F.value f.new ≡ forward_layers F.q (map F.value zetas.now) layers (map F.value f.old) }
 {
     for l in 0..layers {
         layer(f, zetas, l);
@@ -21,9 +21,9 @@ pub fn forward<F: Modular>(f: &mut [F; 256], zetas: &[F], layers: usize)
 // The layer with the shortest blocks comes first.
 pub fn inverse<F: Modular>(f: &mut [F; 256], zetas: &[F], layers: usize)
     requires few { layers ≤ 8 }
-    requires factors { Factors q (2 ^ layers) (map value zetas.now) }
-    requires poly { Poly q (map value f.old) }
-    ensures { map value f.new ≡ inverse_layers q (map value zetas.now) layers layers (map value f.old) }
+    requires factors { Factors F.q (2 ^ layers) (map F.value zetas.now) }
+    requires poly { Poly F.q (map F.value f.old) }
+    ensures { map F.value f.new ≡ inverse_layers F.q (map F.value zetas.now) layers layers (map F.value f.old) }
 {
     for l in 0..layers {
         layer_inverse(f, zetas, layers - 1 - l);

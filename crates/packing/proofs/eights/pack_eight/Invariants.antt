@@ -1,4 +1,4 @@
-use Rattle.std.proofs.Common.{◌≡◌, ◌+◌, ◌*◌, ◌<◌, ◌≤◌, length}
+use Rattle.std.proofs.Common.{◌+◌, ◌<◌, ◌≤◌}
 use Rattle.algebra.proofs.Windows.{whole}
 use Rattle.algebra.proofs.Streams.{Waiting}
 use Rattle.packing.proofs.eights.pack_eight.Given as goal

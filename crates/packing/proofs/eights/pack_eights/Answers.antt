@@ -1,4 +1,4 @@
-use Rattle.std.proofs.Common.{◌≡◌, ◌+◌, ◌*◌, ◌≤◌, length, take, sym, ap, ◌∙◌, subst, mul-le-mul_left, arith}
+use Rattle.std.proofs.Common.{◌≡◌, ◌+◌, ◌*◌, ◌≤◌, length, take, ap, ◌∙◌, subst, mul-le-mul_left, arith}
 use Rattle.standards.specs.Bytes.{pack}
 use Rattle.algebra.proofs.Parts.{fill_next, filled}
 use Rattle.algebra.proofs.Packing.{pack_eight, length-pack}

@@ -1,5 +1,4 @@
-use Rattle.std.proofs.Common.{◌≡◌, ◌+◌, ◌-◌, ◌*◌, ◌/◌, ◌%◌, ◌^◌, ◌<◌, ◌≤◌, length, set, sym, ap, ◌∙◌, subst, mod-eq_of_lt, mul-le-mul_left, arith, length-set}
-use lib.Bits.{bit_and}
+use Rattle.std.proofs.Common.{◌+◌, ◌-◌, ◌/◌, ◌^◌, ◌<◌, set, sym, ap, ◌∙◌, subst, mod-eq_of_lt, mul-le-mul_left, arith, length-set}
 use Rattle.std.proofs.lemmas.Nat.{shl_whole}
 use Rattle.standards.specs.Lists.{at}
 use Rattle.algebra.proofs.Windows.{whole, digit, masked}

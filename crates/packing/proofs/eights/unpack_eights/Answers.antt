@@ -1,4 +1,4 @@
-use Rattle.std.proofs.Common.{◌≡◌, ◌+◌, ◌-◌, ◌*◌, ◌^◌, ◌≤◌, T, length, take, drop, sym, ap, ◌∙◌, subst, mul-le-mul_left, arith, pow_mono}
+use Rattle.std.proofs.Common.{◌≡◌, ◌+◌, ◌-◌, ◌*◌, ◌^◌, T, length, take, drop, sym, ap, ◌∙◌, subst, mul-le-mul_left, arith, pow_mono}
 use Rattle.standards.specs.Lists.{sum_to, all_below}
 use Rattle.standards.specs.Bytes.{bit, unpack}
 use Rattle.algebra.proofs.Tables.{length-table, below_weaker}

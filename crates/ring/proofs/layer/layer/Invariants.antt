@@ -1,4 +1,4 @@
-use Rattle.std.proofs.Common.{◌≡◌, ◌+◌, ◌-◌, ◌/◌, ◌^◌, map}
+use Rattle.std.proofs.Common.{◌≡◌, ◌+◌, ◌/◌, ◌^◌, map}
 use Rattle.standards.specs.Lists.{at}
 use Rattle.algebra.specs.Layers.{ct_low, ct_high, layer_to}
 use Rattle.ring.proofs.layer.layer.Given as goal

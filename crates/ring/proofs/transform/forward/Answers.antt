@@ -1,4 +1,4 @@
-use Rattle.std.proofs.Common.{◌-◌, map, sym, subst, arith}
+use Rattle.std.proofs.Common.{map, sym, subst, arith}
 use Rattle.standards.specs.Ring.{Poly}
 use Rattle.algebra.proofs.Blocks.{forward_layers_none, forward_layers_more, forward_layers_poly, fewer_factors}
 use Rattle.ring.proofs.transform.forward.Goals as goal

@@ -4,7 +4,7 @@ use Rattle.ring.proofs.kem.poly.Poly.zero.Goals as goal
 
 pub invariant_of-result : goal.invariant_of-result
 unfolding all_below
-invariant_of-result c = (tt, tt)
+invariant_of-result c = record { below = tt }
 
 pub returns : goal.returns
 unfolding from
