@@ -1,13 +1,13 @@
 -- A sponge that absorbs: a byte, whole lanes, a block that is full, and the end of the message.
-use Rattle.std.proofs.Common.{◌≡◌, ℕ, zero, suc, ◌+◌, ◌-◌, ◌*◌, ◌/◌, ◌%◌, ◌^◌, ◌<◌, ◌≤◌, Bool, true, false, cond, eqb, ltb, ◌≢◌, List, [], ◌∷◌, ◌++◌, length, get_or, take, drop, set, replicate, sym, refl, ap, ◌∙◌, subst, ap₂, inl, inr, zero-add, add-one, arith}
+use Rattle.std.proofs.Common.{◌≡◌, ℕ, suc, ◌+◌, ◌*◌, ◌/◌, ◌%◌, ◌<◌, ◌≤◌, Bool, true, false, cond, ltb, List, [], ◌∷◌, ◌++◌, length, replicate, sym, refl, ap, ◌∙◌, subst, ap₂, inl, inr, zero-add, add-one, arith}
 use mathlib.Core.Path.{fun_ext}
-use native.Mathlib.Nat.{add-div_left, div-eq_of_lt}
-use lib.Bits.{bit_xor, xor_assoc, xor_comm, xor_shifted, xor_zero_r}
-use Rattle.std.proofs.lemmas.List.{length-set, length-append, length-replicate, get_or-set_same, get_or-replicate, set-set, get_or_past, take_at, drop_at, append-nil, append_assoc, ext_get_or}
-use Rattle.std.proofs.lemmas.Bool.{cases_lt, cases_eq, cond-true, cond-false, lt-ltb, le-ltb, eq-eqb, ne_eqb}
+use native.Mathlib.Nat.{add-div_left}
+use lib.Bits.{bit_xor, xor_zero_r}
+use Rattle.std.proofs.lemmas.List.{length-append, length-replicate, get_or-replicate, get_or_past, take_at, drop_at, append_assoc}
+use Rattle.std.proofs.lemmas.Bool.{cases_lt}
 use Rattle.standards.specs.Lists.{table, at}
-use Rattle.standards.specs.Fips202.{lane_of, padded, absorb_block, absorb_blocks, permuted, state_byte, keccak_f, sponge}
-use Rattle.algebra.proofs.Tables.{length-table, at_table, table_same, is_table}
+use Rattle.standards.specs.Fips202.{lane_of, absorb_block, absorb_blocks, permuted, state_byte, keccak_f, sponge}
+use Rattle.algebra.proofs.Tables.{is_table}
 use Rattle.fips202_laws.specs.Sponges.{absorbed_from, stream_from, Absorbs, mixed_byte, mixed_lanes}
 use Rattle.fips202_laws.proofs.Patches.{Patch, patch_front, patch_blocks, lanes_merged, byte_merged, no_lane}
 

@@ -1,7 +1,7 @@
 -- FIPS 202's functions give bytes, and as many as they should.
 use Rattle.std.proofs.Common.{ℕ, ◌<◌, List, arith}
 use Rattle.std.proofs.lemmas.Nat.{mod_below}
-use Rattle.standards.specs.Fips202.{fips202, sponge}
+use Rattle.standards.specs.Fips202.{sponge}
 use Rattle.standards.specs.Promises.{HashesAreFair}
 use Rattle.algebra.proofs.Tables.{length-table, below_table}
 

@@ -1,10 +1,10 @@
 -- A block that has some bytes more than another, which has noughts there: what differs goes into the lanes instead.
-use Rattle.std.proofs.Common.{◌≡◌, ℕ, zero, suc, ◌+◌, ◌-◌, ◌*◌, ◌/◌, ◌%◌, ◌^◌, ◌<◌, ◌≤◌, Bool, true, false, cond, eqb, ltb, ◌≢◌, List, [], ◌∷◌, ◌++◌, length, get_or, take, drop, set, replicate, sym, refl, ap, ◌∙◌, subst, ap₂, inl, inr, add-zero, arith}
+use Rattle.std.proofs.Common.{◌≡◌, ℕ, zero, suc, ◌+◌, ◌-◌, ◌*◌, ◌/◌, ◌%◌, ◌^◌, ◌<◌, ◌≤◌, true, cond, eqb, ltb, ◌≢◌, List, [], ◌∷◌, ◌++◌, length, take, drop, replicate, sym, refl, ap, ◌∙◌, subst, ap₂, inl, inr, add-zero, arith}
 use lib.Bits.{bit_xor, xor_assoc, xor_comm, xor_shifted, xor_zero_r}
-use Rattle.std.proofs.lemmas.List.{length-set, length-take, length-drop, length-append, length-replicate, get_or-set_same, get_or-set_other, get_or-take, get_or-drop, get_or_past, get_or_append_left, get_or-append_right, get_or-replicate, ext_get_or}
+use Rattle.std.proofs.lemmas.List.{length-take, length-drop, length-replicate, get_or-set_same, get_or-set_other, get_or-take, get_or-drop, get_or_past, get_or_append_left, get_or-append_right, get_or-replicate, ext_get_or}
 use Rattle.std.proofs.lemmas.Bool.{cases_lt, cases_eq, cond-true, cond-false, lt-ltb, le-ltb}
 use Rattle.std.proofs.lemmas.Nat.{div-add-mod'}
-use Rattle.standards.specs.Lists.{table, at}
+use Rattle.standards.specs.Lists.{at}
 use Rattle.standards.specs.Fips202.{lane_of, padded, absorb_block, absorb_blocks, keccak_f}
 use Rattle.algebra.proofs.Tables.{length-table, at_table, table_same}
 use Rattle.fips202_laws.specs.Sponges.{mixed_byte, mixed_up_to, mixed_lanes}

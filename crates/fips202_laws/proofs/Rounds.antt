@@ -4,7 +4,7 @@ use lib.Bits.{bit_xor}
 use Rattle.std.proofs.lemmas.List.{length-set, get_or-set_same, get_or-set_other, at_drop_more, at_drop_all}
 use Rattle.std.proofs.lemmas.Bool.{cond-false, ne_eqb}
 use Rattle.standards.specs.Lists.{at}
-use Rattle.standards.specs.Fips202.{theta, rho, pi, chi, iota, round, rounds}
+use Rattle.standards.specs.Fips202.{theta, rho, pi, chi, iota, rounds}
 use Rattle.algebra.proofs.Tables.{length-table, is_table}
 use Rattle.fips202_laws.proofs.Constants.{constants}
 

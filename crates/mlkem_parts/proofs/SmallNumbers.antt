@@ -1,6 +1,6 @@
 -- Small numbers out of packed bits are those of SamplePolyCBD.
-use Rattle.std.proofs.Common.{◌≡◌, ℕ, ◌+◌, ◌-◌, ◌*◌, ◌/◌, ◌%◌, ◌^◌, ◌<◌, List, ap, ◌∙◌, ap₂, arith}
-use Rattle.standards.specs.Lists.{table, at, sum_to}
+use Rattle.std.proofs.Common.{◌≡◌, ℕ, ◌+◌, ◌-◌, ◌*◌, ◌%◌, List, ap, ◌∙◌, ap₂, arith}
+use Rattle.standards.specs.Lists.{table, at}
 use Rattle.standards.specs.Bytes.{bit, unpack}
 use Rattle.standards.specs.MlKemParts.{sample_poly_cbd}
 use Rattle.algebra.proofs.Sums.{sum_same}

@@ -5,7 +5,7 @@ ghost use Rattle.std.specs.Prelude.{◌≡◌, ℕ, ◌+◌, ◌*◌, ◌%◌, l
 ghost use Rattle.standards.specs.Lists.{table};
 ghost use Rattle.standards.specs.Hashes.{Hashes};
 ghost use Rattle.plain.specs.Counting.{counted, step_of, count_from, plain, StuckAt255};
-ghost use Rattle.plain.specs.Counts.{plain_fair};
+ghost use Rattle.plain.specs.Fairness.{plain_fair};
 
 use hash::in_turn::InTurn;
 use hash::{Digest, FourReaders, Hash, Reader, Xof};

@@ -1,4 +1,4 @@
-use Rattle.std.proofs.Common.{◌≡◌, ℕ, ◌*◌, ◌/◌, ◌%◌, ◌≤◌, ◌&&◌, List, sym, ap, ◌∙◌, ap₂, div-le_self, arith}
+use Rattle.std.proofs.Common.{◌≡◌, ℕ, ◌*◌, ◌/◌, ◌%◌, ◌&&◌, List, sym, ap, ◌∙◌, ap₂, div-le_self, arith}
 use Rattle.std.proofs.lemmas.Nat.{mul-le}
 use Rattle.standards.specs.Lists.{tables, all_full}
 use Rattle.standards.specs.MlDsaParts.{expand_a}

@@ -1,7 +1,7 @@
 use Rattle.std.proofs.Common.{◌≡◌, ◌+◌, ◌*◌, ◌%◌, ◌<◌, ◌≢◌, length, ap, ◌∙◌, arith, get_or-set_other, get_or-set_same, below_more}
 use Rattle.algebra.proofs.Tables.{is_table}
 use Rattle.plain.specs.Counting.{counted}
-use Rattle.plain.specs.Counts.{counted_on}
+use Rattle.plain.proofs.Counts.{counted_on}
 use Rattle.plain.proofs.fill.Goals as goal
 
 pub loop-x-init : goal.loop-x-init

@@ -1,4 +1,4 @@
-use Rattle.plain.specs.Counts.{stuck_at_255}
+use Rattle.plain.proofs.Counts.{stuck_at_255}
 use Rattle.plain.proofs.stuck_at_255.Goals as goal
 
 pub returns : goal.returns

@@ -1,4 +1,4 @@
-use Rattle.std.proofs.Common.{◌≡◌, ℕ, ◌+◌, ◌*◌, List, refl, ap, ◌∙◌, arith}
+use Rattle.std.proofs.Common.{ℕ, ◌+◌, ◌*◌, List, refl, ap, ◌∙◌, arith}
 use Rattle.standards.specs.Lists.{row_at, all_below}
 use Rattle.standards.specs.Ring.{add_p}
 use Rattle.standards.specs.MlKemParts.{multiply_ntts}

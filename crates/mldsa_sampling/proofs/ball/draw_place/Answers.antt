@@ -8,7 +8,7 @@ pub loop-seen-preserved : goal.loop-seen-preserved
 loop-seen-preserved g c =
     let s = ahead c.args.block.now c.args.pos.now (g.R.Reader.rest c.args.reader.now) in
     let r = ahead c.loop-seen.block c.loop-seen.pos (g.R.Reader.rest c.loop-seen.reader) in
-    let seen = c.loop-seen.-seen in
+    let seen = c.loop-seen._seen in
     let b = c.next_byte-b.result in (
       c.next_byte-b.ensures.within,
       omega arith,
@@ -20,7 +20,7 @@ pub returns-then-b-i : goal.returns-then-b-i
 returns-then-b-i g c =
     let s = ahead c.args.block.now c.args.pos.now (g.R.Reader.rest c.args.reader.now) in
     let r = ahead c.loop-seen.block c.loop-seen.pos (g.R.Reader.rest c.loop-seen.reader) in
-    let seen = c.loop-seen.-seen in
+    let seen = c.loop-seen._seen in
     let b = c.next_byte-b.result in
     let v = next_read s r seen b c.loop-seen.invariant.2 c.next_byte-b.ensures.byte in
     let at = first_found s 1024 seen c.args.i b _ v (inl c.if-b-i.true) c.loop-seen.invariant.3 in
@@ -34,7 +34,7 @@ pub returns : goal.returns
 returns g c =
     let s = ahead c.args.block.now c.args.pos.now (g.R.Reader.rest c.args.reader.now) in
     let r = ahead c.loop-seen.block c.loop-seen.pos (g.R.Reader.rest c.loop-seen.reader) in
-    let seen = c.loop-seen.-seen in
+    let seen = c.loop-seen._seen in
     let b = c.next_byte.result in
     let v = next_read s r seen b c.loop-seen.invariant.2 c.next_byte.ensures.byte in
     let at = first_found s 1024 seen c.args.i b _ v (inr (omega arith)) c.loop-seen.invariant.3 in

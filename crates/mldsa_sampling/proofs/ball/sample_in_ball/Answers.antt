@@ -1,4 +1,4 @@
-use Rattle.std.proofs.Common.{◌≡◌, ◌-◌, ◌≤◌, T, [], replicate, sym, refl, ap, ◌∙◌, subst, ap₂, arith, lit≤, length-set}
+use Rattle.std.proofs.Common.{◌≡◌, ◌-◌, T, [], replicate, sym, refl, ap, ◌∙◌, subst, ap₂, arith, lit≤, length-set}
 use Rattle.std.proofs.lemmas.List.{append-nil}
 use Rattle.standards.specs.Lists.{table, all_below}
 use Rattle.standards.specs.Ring.{zero_p}
@@ -17,14 +17,14 @@ pub loop-t-init : goal.loop-t-init
 loop-t-init g c =
     let h = g.H.Hash.hashes.shake256 in
     let s = h c.args.c.now in
-    let start : g.Reader256.Reader.rest c.shake256-reader.result ≡ s = c.shake256-reader.ensures ∙ ap h (append-nil c.args.c.now) in
+    let start : g.H.Reader256.Reader.rest c.shake256-reader.result ≡ s = c.shake256-reader.ensures ∙ ap h (append-nil c.args.c.now) in
     let none : c.fill.new.self ≡ zero_p = c.fill.ensures.after (λ y e. e) ∙ (ap (λ n. replicate n 0) c.told-f ∙ padded 256 [] (lit≤ tt)) in (
       omega arith,
       refl,
       omega arith,
       record {
         pos = 8;
-        on = ahead_end (replicate 128 0) 128 (g.Reader256.Reader.rest c.squeeze.new.self) refl ∙ (c.squeeze.ensures.onward ∙ ap (later 8) start);
+        on = ahead_end (replicate 128 0) 128 (g.H.Reader256.Reader.rest c.squeeze.new.self) refl ∙ (c.squeeze.ensures.onward ∙ ap (later 8) start);
         is = ap₂ (λ k f. ball_steps k 0 8 s f) {x = c.args.p.tau - 0} {y = c.args.p.tau} (omega arith) none;
       },
     )
@@ -34,8 +34,8 @@ loop-t-preserved g c =
     let h = g.H.Hash.hashes.shake256 in
     let s = h c.args.c.now in
     let t = c.loop-t.t in
-    let start : g.Reader256.Reader.rest c.shake256-reader.result ≡ s = c.shake256-reader.ensures ∙ ap h (append-nil c.args.c.now) in
-    let r = ahead c.loop-t.block c.loop-t.pos (g.Reader256.Reader.rest c.loop-t.reader) in (
+    let start : g.H.Reader256.Reader.rest c.shake256-reader.result ≡ s = c.shake256-reader.ensures ∙ ap h (append-nil c.args.c.now) in
+    let r = ahead c.loop-t.block c.loop-t.pos (g.H.Reader256.Reader.rest c.loop-t.reader) in (
       c.draw_place-j.ensures.within,
       omega arith,
       simp (length-set, length-set) c.loop-t.invariant.2,

@@ -9,4 +9,4 @@ abbrev pub invariant-loop-t : goal.invariant-loop-t
 invariant-loop-t g l =
     let s = g.H.Hash.hashes.shake256 l.c in
     (l.pos ≤ 128) × (length l.block ≡ 128) × (length l.f ≡ 256) ×
-    Left s (ahead l.block l.pos (g.Reader256.Reader.rest l.reader)) (l.p.tau - l.t) l.t l.f (ball_steps l.p.tau 0 8 s zero_p)
+    Left s (ahead l.block l.pos (g.H.Reader256.Reader.rest l.reader)) (l.p.tau - l.t) l.t l.f (ball_steps l.p.tau 0 8 s zero_p)

@@ -1,4 +1,4 @@
-use Rattle.std.proofs.Common.{ap, ◌∙◌, ap₂, arith}
+use Rattle.std.proofs.Common.{◌∙◌, ap₂, arith}
 use Rattle.standards.specs.Ring.{add_p}
 use Rattle.mldsa_laws.proofs.RowLoops.{rows_start, rows_next, rows_end, rows-small, rows_waiting}
 use Rattle.mldsa_vectors.proofs.products.add_products.Goals as goal

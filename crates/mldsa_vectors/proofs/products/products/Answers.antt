@@ -1,5 +1,5 @@
-use Rattle.std.proofs.Common.{ap, ◌∙◌, ap₂, arith}
-use Rattle.mldsa_laws.proofs.RowLoops.{rows_start, rows_next, rows_end, rows-small, rows_waiting}
+use Rattle.std.proofs.Common.{arith}
+use Rattle.mldsa_laws.proofs.RowLoops.{rows_start, rows_next, rows_end, rows-small}
 use Rattle.mldsa_vectors.proofs.products.products.Goals as goal
 
 pub loop-i-init : goal.loop-i-init

@@ -1,6 +1,6 @@
 use Rattle.std.proofs.Common.{ap, ◌∙◌, arith}
 use Rattle.standards.specs.MlDsaParts.{high_bits_p}
-use Rattle.mldsa_laws.proofs.RowLoops.{rows_start, rows_next, rows_end, rows-small, rows_waiting}
+use Rattle.mldsa_laws.proofs.RowLoops.{rows_start, rows_next, rows_end, rows_waiting}
 use Rattle.mldsa_vectors.proofs.rounding.high_bits_rows.Goals as goal
 
 pub loop-i-init : goal.loop-i-init

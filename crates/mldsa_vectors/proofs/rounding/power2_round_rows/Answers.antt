@@ -1,7 +1,7 @@
-use Rattle.std.proofs.Common.{◌≡◌, ◌<◌, T, length, sym, ap, ◌∙◌, subst, arith}
+use Rattle.std.proofs.Common.{◌≡◌, T, length, sym, ap, ◌∙◌, subst, arith}
 use Rattle.standards.specs.Lists.{tables, row_at, all_below}
 use Rattle.standards.specs.MlDsaParts.{power2_round1_p, power2_round0_p}
-use Rattle.mldsa_laws.proofs.RowLoops.{rows_start, rows_next, rows_end, rows-small, rows_waiting, rounded_small}
+use Rattle.mldsa_laws.proofs.RowLoops.{rows_start, rows_next, rows_end, rows_waiting, rounded_small}
 use Rattle.mldsa_vectors.proofs.rounding.power2_round_rows.Goals as goal
 
 pub loop-i-init : goal.loop-i-init

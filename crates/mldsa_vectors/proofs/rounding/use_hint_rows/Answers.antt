@@ -1,7 +1,7 @@
 use Rattle.std.proofs.Common.{ap, ◌∙◌, arith}
 use Rattle.standards.specs.Lists.{row_at}
 use Rattle.standards.specs.MlDsaParts.{use_hint_p}
-use Rattle.mldsa_laws.proofs.RowLoops.{rows_start, rows_next, rows_end, rows-small, rows_waiting}
+use Rattle.mldsa_laws.proofs.RowLoops.{rows_start, rows_next, rows_end, rows_waiting}
 use Rattle.mldsa_vectors.proofs.rounding.use_hint_rows.Goals as goal
 
 pub loop-i-init : goal.loop-i-init

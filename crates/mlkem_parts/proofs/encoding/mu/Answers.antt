@@ -1,6 +1,6 @@
-use Rattle.std.proofs.Common.{T, sym, ap, ◌∙◌, subst, arith, lit≤}
-use Rattle.standards.specs.Lists.{at, all_below}
-use Rattle.standards.specs.Bytes.{unpack, bit}
+use Rattle.std.proofs.Common.{T, sym, ap, ◌∙◌, subst, lit≤}
+use Rattle.standards.specs.Lists.{all_below}
+use Rattle.standards.specs.Bytes.{bit}
 use Rattle.standards.specs.MlKemParts.{decompress, decompress_p}
 use Rattle.algebra.proofs.Tables.{table_same}
 use Rattle.algebra.proofs.Packing.{below_unpack, unpack-bit}

@@ -1,6 +1,6 @@
 use Rattle.std.proofs.Common.{◌^◌, ◌<◌, T, sym, subst, arith}
 use Rattle.std.proofs.lemmas.Nat.{mod_below, pow_pos}
-use Rattle.standards.specs.Lists.{at, all_below}
+use Rattle.standards.specs.Lists.{all_below}
 use Rattle.algebra.proofs.Tables.{at_below, below_table}
 use Rattle.algebra.proofs.Words.{filled_all}
 use Rattle.mlkem_parts.proofs.rounding.compress.Goals as goal

@@ -1,4 +1,4 @@
-use Rattle.std.proofs.Common.{◌≡◌, ◌+◌, ◌*◌, ◌<◌, ◌≤◌, ltb, length, take, sym, arith, length-set}
+use Rattle.std.proofs.Common.{ltb, take, sym, arith, length-set}
 use Rattle.std.proofs.lemmas.List.{append-nil}
 use Rattle.standards.specs.Lists.{at}
 use Rattle.algebra.specs.Draws.{accepted}

@@ -1,8 +1,8 @@
-use Rattle.std.proofs.Common.{◌≡◌, ℕ, ◌<◌, ◌≤◌, T, ltb, List, ◌++◌, length, take, sym, ap, ◌∙◌, subst, arith, lit<}
+use Rattle.std.proofs.Common.{◌≡◌, ℕ, ◌<◌, T, ltb, ◌++◌, length, take, sym, ap, ◌∙◌, subst, arith, lit<}
 use Rattle.std.proofs.lemmas.Bool.{eq-eqb, ltb-true}
 use Rattle.std.proofs.lemmas.List.{length-take-le}
-use Rattle.standards.specs.Lists.{at, all_below}
-use Rattle.standards.specs.MlKemParts.{candidate12, sample_ntt}
+use Rattle.standards.specs.Lists.{all_below}
+use Rattle.standards.specs.MlKemParts.{candidate12}
 use Rattle.algebra.proofs.Tables.{all_below_lem}
 use Rattle.algebra.proofs.Draws.{draw_all}
 use Rattle.mlkem_parts.specs.Candidates.{drawn12}

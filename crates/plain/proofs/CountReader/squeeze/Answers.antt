@@ -1,6 +1,6 @@
 use Rattle.std.proofs.Common.{length, ap, ◌∙◌}
 use Rattle.plain.specs.Counting.{counted}
-use Rattle.plain.specs.Counts.{counted-later}
+use Rattle.plain.proofs.Counts.{counted-later}
 use Rattle.plain.proofs.CountReader.squeeze.Goals as goal
 
 pub returns : goal.returns

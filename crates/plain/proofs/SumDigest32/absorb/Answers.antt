@@ -1,7 +1,7 @@
 use Rattle.std.proofs.Common.{◌+◌, sum, ap, ◌∙◌}
 use Rattle.standards.specs.Lists.{table}
 use Rattle.plain.specs.Counting.{count_from}
-use Rattle.plain.specs.Counts.{added_on}
+use Rattle.plain.proofs.Counts.{added_on}
 use Rattle.plain.proofs.SumDigest32.absorb.Goals as goal
 
 pub returns : goal.returns

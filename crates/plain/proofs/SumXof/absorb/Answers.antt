@@ -1,6 +1,6 @@
 use Rattle.std.proofs.Common.{◌+◌, sum, ap, ◌∙◌}
 use Rattle.plain.specs.Counting.{count_from}
-use Rattle.plain.specs.Counts.{added_on}
+use Rattle.plain.proofs.Counts.{added_on}
 use Rattle.plain.proofs.SumXof.absorb.Goals as goal
 
 pub returns : goal.returns

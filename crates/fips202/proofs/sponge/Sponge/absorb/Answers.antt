@@ -1,4 +1,4 @@
-use Rattle.std.proofs.Common.{◌≡◌, ℕ, ◌+◌, ◌-◌, ◌≤◌, List, ◌++◌, length, take, drop, sym, refl, ap, ◌∙◌, subst, arith, take-add}
+use Rattle.std.proofs.Common.{◌≡◌, ◌-◌, ◌≤◌, ◌++◌, length, take, drop, sym, refl, ap, ◌∙◌, subst, arith, take-add}
 use Rattle.std.proofs.lemmas.List.{take_all, take_rest}
 use Rattle.fips202_laws.specs.Sponges.{Absorbs}
 use Rattle.fips202_laws.proofs.Absorbing.{absorbs_both}

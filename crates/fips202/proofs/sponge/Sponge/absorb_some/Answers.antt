@@ -1,6 +1,6 @@
-use Rattle.std.proofs.Common.{◌≡◌, ℕ, ◌+◌, ◌-◌, ◌*◌, ◌/◌, ◌%◌, ◌<◌, ◌≤◌, min, List, [], ◌∷◌, ◌++◌, length, get_or, take, sym, ap, ◌∙◌, ap₂, arith}
+use Rattle.std.proofs.Common.{◌≡◌, ℕ, ◌+◌, ◌-◌, ◌*◌, ◌/◌, ◌%◌, min, List, [], ◌∷◌, ◌++◌, length, get_or, take, sym, ap, ◌∙◌, ap₂, arith}
 use Rattle.std.proofs.lemmas.List.{length-take-le, take_more}
-use Rattle.fips202_laws.specs.Sponges.{absorbed_from, mixed_byte, mixed_lanes}
+use Rattle.fips202_laws.specs.Sponges.{absorbed_from, mixed_lanes}
 use Rattle.fips202_laws.proofs.Absorbing.{absorbs_byte, absorbs_lanes}
 use Rattle.fips202.proofs.sponge.Sponge.absorb_some.Goals as goal
 

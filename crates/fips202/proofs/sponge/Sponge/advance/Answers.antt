@@ -1,4 +1,4 @@
-use Rattle.std.proofs.Common.{◌≡◌, ℕ, List, length, sym, ap, ◌∙◌, ap₂, arith}
+use Rattle.std.proofs.Common.{◌≡◌, length, sym, ap, ◌∙◌, arith}
 use Rattle.fips202_laws.specs.Sponges.{absorbed_from}
 use Rattle.fips202_laws.proofs.Absorbing.{absorbs_full}
 use Rattle.fips202.proofs.sponge.Sponge.advance.Goals as goal
