@@ -7,7 +7,7 @@ room=$(mktemp -d)
 trap 'rm -rf "$room"' EXIT
 mkdir -p "$room/crates/ring_exports/src"
 cp -r crates/standards crates/algebra crates/ring "$room/crates/"
-printf 'standards:\nalgebra: standards\nring: standards algebra\nring_exports: standards algebra ring\n' >"$room/crates.txt"
+printf 'standards:\nalgebra: standards\nring: standards algebra\nring_exports staticlib: standards algebra ring\n' >"$room/crates.txt"
 
 # export SCHEME WORD MODULUS NAME: a function that C can call
 one() {
@@ -15,7 +15,7 @@ one() {
 
 #[unsafe(no_mangle)]
 pub extern "C" fn $1_$4(f: &mut [$2; 256])
-    requires { ⌜ T (allBelow $3 (now f)) ⌝ }
+    requires { T (all_below $3 f.old) }
 {
     $1::$4(f);
 }
@@ -26,7 +26,8 @@ two() {
 
 #[unsafe(no_mangle)]
 pub extern "C" fn $1_$4(f: &mut [$2; 256], g: &[$2; 256])
-    requires { ⌜ T (allBelow $3 (now f)) ⌝ ∗ ⌜ T (allBelow $3 (now g)) ⌝ }
+    requires first { T (all_below $3 f.old) }
+    requires second { T (all_below $3 g.now) }
 {
     $1::$4(f, g);
 }
@@ -37,14 +38,16 @@ three() {
 
 #[unsafe(no_mangle)]
 pub extern "C" fn $1_$4(out: &mut [$2; 256], f: &[$2; 256], g: &[$2; 256])
-    requires { ⌜ T (allBelow $3 (now out)) ⌝ ∗ ⌜ T (allBelow $3 (now f)) ⌝ ∗ ⌜ T (allBelow $3 (now g)) ⌝ }
+    requires sum { T (all_below $3 out.old) }
+    requires first { T (all_below $3 f.now) }
+    requires second { T (all_below $3 g.now) }
 {
     $1::$4(out, f, g);
 }
 RT
 }
 {
-  printf 'ghost use lib.Dec.{T};\nghost use Rattle·standards.specs.Lists.{allBelow};\nuse ring::dsa;\nuse ring::kem;\n'
+  printf '#![tactic(auto)]\n\nghost use Rattle.std.specs.Prelude.{T};\nghost use Rattle.standards.specs.Lists.{all_below};\n\nuse ring::{dsa, kem};\n'
   one kem u16 3329 ntt
   one kem u16 3329 ntt_inverse
   two kem u16 3329 multiply_ntts
@@ -59,9 +62,9 @@ RT
   three dsa u32 8380417 multiply_add
 } >"$room/crates/ring_exports/src/lib.rt"
 
-(cd "$room" && rt staticlib ring_exports >build.log 2>&1) || {
+(cd "$room" && rt lib ring_exports >build.log 2>&1) || {
   tail -20 "$room/build.log" >&2
   exit 1
 }
-cc -O2 -o "$room/transforms" bench/transforms.c "$room/target/staticlib/libring_exports.a"
+cc -O2 -o "$room/transforms" bench/transforms.c "$room/crates/ring_exports/out/libring_exports.a"
 "$room/transforms"

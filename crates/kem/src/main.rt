@@ -12,6 +12,7 @@ ghost use Rattle.files.specs.Kem.{keys_answer, encaps_answer, decaps_answer};
 
 use files::kem::{decaps, encaps, keys};
 use files::texts::MOST_TEXT;
+use fips202::functions::Fips202;
 use std::alloc::{AllocError, Global};
 use std::fs::File;
 use std::io::{Read, Write};
@@ -51,9 +52,9 @@ fn answer(
     ensures decaps { call.now ≡ codes "decaps" → IfOk result (λ v. v.items ≡ decaps_answer fips202 set.now (text_of first.now) (text_of second.now)) }
 {
     match call {
-        "keys" => keys::<fips202::functions::Fips202>(heap, set, first, second),
-        "encaps" => encaps::<fips202::functions::Fips202>(heap, set, first, second),
-        "decaps" => decaps::<fips202::functions::Fips202>(heap, set, first, second),
+        "keys" => keys::<Fips202>(heap, set, first, second),
+        "encaps" => encaps::<Fips202>(heap, set, first, second),
+        "decaps" => decaps::<Fips202>(heap, set, first, second),
         _ => Vec::from_slice(heap, USAGE.as_bytes()),
     }
 }

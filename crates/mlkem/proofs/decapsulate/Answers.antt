@@ -1,4 +1,4 @@
-use Rattle.std.proofs.Common.{◌≡◌, sym, ap, ◌∙◌}
+use Rattle.std.proofs.Common.{sym, ap, ◌∙◌}
 use Rattle.standards.specs.MlKemParts.{KemSet}
 use Rattle.standards.specs.MlKem.{decaps, matrix_drawn, ek_rho}
 use Rattle.sets.specs.Sets.{kem_numbers}

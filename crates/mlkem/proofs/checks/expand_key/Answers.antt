@@ -1,4 +1,4 @@
-use Rattle.std.proofs.Common.{◌≡◌, ℕ, ◌*◌, List, ap, ◌∙◌, subst}
+use Rattle.std.proofs.Common.{ℕ, ◌*◌, List, ap, ◌∙◌, subst}
 use Rattle.standards.specs.MlKem.{matrix_drawn}
 use Rattle.algebra.specs.RowArrays.{RowsAre}
 use Rattle.algebra.proofs.Parts.{part_rest}

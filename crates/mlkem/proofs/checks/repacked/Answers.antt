@@ -1,4 +1,4 @@
-use Rattle.std.proofs.Common.{◌≡◌, ◌-◌, ◌*◌, take, ap, ◌∙◌, ap₂, arith}
+use Rattle.std.proofs.Common.{◌-◌, ◌*◌, take, ap, ◌∙◌, ap₂, arith}
 use Rattle.standards.specs.Lists.{same}
 use Rattle.standards.specs.Bytes.{pack}
 use Rattle.algebra.proofs.RowArrays.{joined_same}

@@ -1,7 +1,6 @@
-use Rattle.std.proofs.Common.{◌≡◌, ℕ, ◌+◌, ◌-◌, ◌*◌, ◌≤◌, cond, eqb, List, length, take, drop, replicate, sym, ap, ◌∙◌, subst, arith, length-drop, length-take}
+use Rattle.std.proofs.Common.{ℕ, ◌+◌, ◌*◌, cond, eqb, List, length, drop, replicate, sym, ap, ◌∙◌, subst, arith, length-drop, length-take}
 use Rattle.std.proofs.lemmas.Nat.{mul-le}
 use Rattle.std.proofs.lemmas.List.{take_all}
-use Rattle.standards.specs.Lists.{same}
 use Rattle.standards.specs.MlKem.{ek_rho}
 use Rattle.algebra.specs.RowArrays.{RowsAre}
 use Rattle.algebra.proofs.Parts.{part_is, part_rest, room_is}

@@ -1,4 +1,4 @@
-use Rattle.std.proofs.Common.{refl, ap, ◌∙◌}
+use Rattle.std.proofs.Common.{ap, ◌∙◌}
 use Rattle.standards.specs.MlKem.{matrix_drawn}
 use Rattle.sets.specs.Sets.{kem_numbers}
 use Rattle.mlkem.proofs.KeyRows.{ek_is, dk_is}
