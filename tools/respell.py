@@ -14,6 +14,7 @@ import sys
 
 HERE = os.path.dirname(os.path.realpath(__file__))
 TOKEN = re.compile(r"[^\s(){}\[\];,.:`\"«»⌜⌝]+")
+STRING = re.compile(r'("(?:[^"\\\n]|\\.)*")')
 GHOST = re.compile(r"^\s*(pub )?(ghost|requires|ensures)\b")
 
 
@@ -43,12 +44,18 @@ def respelled(text, names, fields, dashes):
     return TOKEN.sub(one, text)
 
 
+def outside(text, names, fields, dashes):
+    """The text respelled, but for what stands in strings: those are inputs and outputs."""
+    parts = STRING.split(text)
+    return "".join(x if i % 2 else respelled(x, names, fields, dashes) for i, x in enumerate(parts))
+
+
 def turned(path, text, names, fields):
     if path.endswith(".antt"):
-        return respelled(text, names, fields, True)
+        return outside(text, names, fields, True)
     if path.endswith(".rt"):
         lines = text.split("\n")
-        return "\n".join(respelled(l, names, fields, bool(GHOST.match(l))) for l in lines)
+        return "\n".join(outside(l, names, fields, bool(GHOST.match(l))) for l in lines)
     return respelled(text, names, fields, False)
 
 

@@ -1,13 +1,13 @@
 -- The four functions by their names, and what each gives of a message. Assumes nothing.
-use Rattle.std.specs.Prelude.{ℕ, Bool, true, List, codes, ◌==◌, nat_le}
+use Rattle.std.specs.Prelude.{ℕ, Bool, List, codes, ◌==◌, nat_le}
 use Rattle.standards.specs.Lists.{table}
 use Rattle.standards.specs.Fips202.{fips202}
 use Rattle.digest.specs.declared.functions.Function.{Function}
 use Rattle.digest.specs.declared.functions.Function.TheVariants.{Sha3_256, Sha3_512, Shake128, Shake256}
 
 abbrev pub name_of : Function → List ℕ
-name_of Sha3_256 = codes "sha3_256"
-name_of Sha3_512 = codes "sha3_512"
+name_of Sha3_256 = codes "sha3-256"
+name_of Sha3_512 = codes "sha3-512"
 name_of Shake128 = codes "shake128"
 name_of Shake256 = codes "shake256"
 

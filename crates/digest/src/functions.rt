@@ -2,6 +2,7 @@ ghost use Rattle.std.specs.Prelude.{◌≡◌, ℕ, ◌+◌, ◌≤◌, false, T
 ghost use Rattle.standards.specs.Lists.{table};
 ghost use Rattle.digest.specs.Functions.{name_of, gives, hash_of};
 
+use fips202::functions::Fips202;
 use hash::{Hash, Reader};
 use std::alloc::{AllocError, Global};
 
@@ -51,24 +52,13 @@ pub fn hashed(heap: Global, f: Function, m: &[u8], n: usize) -> Result<Option<Ve
     ensures { IfOk result (λ o. MatchOption o (gives f n ≡ false) (λ v. T (gives f n) × (v.items ≡ hash_of f m.now n))) }
 {
     match f {
-        Function::Sha3_256 if n == 32 => Ok(Some(Vec::from_slice(
-            heap,
-            &<fips202::functions::Fips202 as Hash>::sha3_256(m),
-        )?)),
+        Function::Sha3_256 if n == 32 => Ok(Some(Vec::from_slice(heap, &Fips202::sha3_256(m))?)),
         Function::Sha3_512 if n == 64 => Ok(Some(Vec::from_slice(
             heap,
-            &<fips202::functions::Fips202 as Hash>::sha3_512(m, &[]),
+            &Fips202::sha3_512(m, &[]),
         )?)),
-        Function::Shake128 if n <= MOST => Ok(Some(read_out(
-            heap,
-            <fips202::functions::Fips202 as Hash>::shake128(m, &[]),
-            n,
-        )?)),
-        Function::Shake256 if n <= MOST => Ok(Some(read_out(
-            heap,
-            <fips202::functions::Fips202 as Hash>::shake256(m, &[]),
-            n,
-        )?)),
+        Function::Shake128 if n <= MOST => Ok(Some(read_out(heap, Fips202::shake128(m, &[]), n)?)),
+        Function::Shake256 if n <= MOST => Ok(Some(read_out(heap, Fips202::shake256(m, &[]), n)?)),
         _ => Ok(None),
     }
 }

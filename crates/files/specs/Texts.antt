@@ -1,5 +1,5 @@
 -- What the programs read of a word and of a file, and how they print. Characters are their codes. Assumes nothing.
-use Rattle.std.specs.Prelude.{ℕ, ◌-◌, Bool, true, false, cond, not, ◌&&◌, List, [], ◌∷◌, ◌++◌, length, Some, None, vec_items, codes, decimal, Option, Vec, ◌==◌, nat_le}
+use Rattle.std.specs.Prelude.{ℕ, ◌-◌, Bool, true, cond, not, ◌&&◌, List, [], ◌∷◌, ◌++◌, length, Some, None, vec_items, codes, decimal, Option, Vec, ◌==◌, nat_le}
 use Rattle.hex_digits.specs.Hex.{hex_of, is_hex, bytes_of}
 
 -- the longest text that a program takes, in characters: the digits of 4 MiB of bytes, and as much for spaces and line ends

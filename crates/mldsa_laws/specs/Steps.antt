@@ -53,6 +53,6 @@ ct_short p ct = nat_lt (norms q ct) p.gamma2
 unfoldable pub few_hints : DsaSet → List (List ℕ) → Bool
 few_hints p hs = nat_le (hint_count hs) p.omega
 
--- sig_encode
+-- sigEncode
 unfoldable pub sig_encode : DsaSet → List ℕ → List (List ℕ) → List (List ℕ) → List ℕ
 sig_encode p c z hs = c ++ (joined (tables p.l (λ i. bit_pack (z_bits p) (gamma1 p) (row_at z i))) ++ hint_bit_pack p hs)

@@ -5,7 +5,7 @@ use Rattle.standards.specs.Bytes.{pack, unpack, bit_rev}
 use Rattle.standards.specs.Ring.{power, zero_p}
 use Rattle.standards.specs.Hashes.{Hashes, shake256_bytes, draw}
 
--- ---- parameter sets; gamma1 is 2^gamma1Bits
+-- ---- parameter sets; gamma1 is 2^gamma1_bits
 pub record DsaSet : Type 0 where
   pub k : ℕ
   pub l : ℕ
@@ -51,7 +51,7 @@ z_bits p = p.gamma1_bits + 1
 abbrev pub w1_bits : DsaSet → ℕ
 w1_bits p = cond (eqb p.gamma2 95232) 6 4
 
--- w1_encode
+-- w1Encode
 abbrev pub w1_encode : DsaSet → List (List ℕ) → List ℕ
 w1_encode p ws = joined (tables p.k (λ i. pack (w1_bits p) (row_at ws i)))
 

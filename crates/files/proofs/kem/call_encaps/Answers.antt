@@ -1,4 +1,4 @@
-use Rattle.std.proofs.Common.{◌≡◌, ◌++◌, length, sym, refl, ap, ◌∙◌, ap₂}
+use Rattle.std.proofs.Common.{◌≡◌, ◌++◌, length, ap, ◌∙◌, ap₂}
 use Rattle.std.proofs.lemmas.List.{with_items_is}
 use Rattle.standards.specs.MlKem.{text_length, encaps_key, encaps_text}
 use Rattle.standards.specs.Calls.{kem_of, encaps_verdict}

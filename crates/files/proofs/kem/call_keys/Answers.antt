@@ -1,4 +1,4 @@
-use Rattle.std.proofs.Common.{◌≡◌, ◌++◌, length, sym, refl, ap, ◌∙◌, ap₂}
+use Rattle.std.proofs.Common.{◌≡◌, ◌++◌, length, ap, ◌∙◌, ap₂}
 use Rattle.std.proofs.lemmas.List.{with_items_is}
 use Rattle.standards.specs.MlKem.{ek_length, dk_length, ek_of, dk_of}
 use Rattle.standards.specs.Calls.{kem_of, kem_keys_verdict}

@@ -1,4 +1,4 @@
-use Rattle.std.proofs.Common.{◌≡◌, true, ◌||◌, eqb, length, sym, refl, ap, ◌∙◌, ap₂}
+use Rattle.std.proofs.Common.{◌≡◌, true, ◌||◌, eqb, length, sym, ap, ◌∙◌, ap₂}
 use Rattle.std.proofs.lemmas.Option.{MatchOption-at_some}
 use Rattle.standards.specs.Calls.{is_set}
 use Rattle.files.specs.Texts.{set_of, bytes_in, text_of}

@@ -1,4 +1,4 @@
-use Rattle.std.proofs.Common.{◌≡◌, vec_items, codes, ◌∙◌}
+use Rattle.std.proofs.Common.{vec_items, codes, ◌∙◌}
 use Rattle.std.proofs.lemmas.List.{append_assoc}
 use Rattle.std.proofs.lemmas.Slice.{pushed}
 use Rattle.hex_digits.specs.Hex.{hex_of}
