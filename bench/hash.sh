@@ -2,7 +2,7 @@
 # Times the hashes beside a plain C Keccak (gcc -O3) and OpenSSL's libcrypto. Outside the gate; needs gcc and OpenSSL's headers.
 set -euo pipefail
 cd "$(dirname "$0")/.."
-rt lib hash_exports >/dev/null
+(cd crates/hash_exports && rt lib >/dev/null)
 mkdir -p target/bench
 gcc -O3 -o target/bench/hash bench/hash.c crates/hash_exports/out/libhash_exports.a -lcrypto
 gcc --version | head -1

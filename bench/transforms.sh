@@ -62,7 +62,7 @@ RT
   three dsa u32 8380417 multiply_add
 } >"$room/crates/ring_exports/src/lib.rt"
 
-(cd "$room" && rt lib ring_exports >build.log 2>&1) || {
+(cd "$room/crates/ring_exports" && rt lib >"$room/build.log" 2>&1) || {
   tail -20 "$room/build.log" >&2
   exit 1
 }
