@@ -92,5 +92,5 @@ pub fn sig_length(p: DsaSet) -> usize
     requires { DsaFits p }
     ensures { result ≡ sig_length (dsa_numbers p) }
 {
-    p.lambda / 4 + 32 * z_bits(p) * p.l + p.omega + p.k
+    c_length(p) + 32 * z_bits(p) * p.l + p.omega + p.k
 }
