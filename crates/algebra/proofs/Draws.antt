@@ -1,11 +1,12 @@
 -- Draws by rejection.
-use Rattle.std.proofs.Common.{◌≡◌, ℕ, zero, suc, ◌+◌, ◌-◌, ◌<◌, ◌≤◌, Bool, true, false, cond, eqb, List, [], ◌∷◌, ◌++◌, length, take, set, sym, refl, ap, ◌∙◌, subst, ap₂, arith}
-use mir.Val.{bool_byte}
-use Rattle.std.proofs.lemmas.Bool.{cond_both, cond-true, cond-false, ne_eqb}
-use Rattle.std.proofs.lemmas.List.{take_more_set, take-set, take_all, take-take, take-append-le, append-nil, length-take-le}
-use Rattle.standards.specs.Lists.{at}
+use Rattle.std.proofs.Common.{◌≡◌, ℕ, zero, suc, ◌+◌, ◌-◌, ◌<◌, ◌≤◌, T, Bool, true, cond, eqb, ltb, List, [], ◌∷◌, ◌++◌, length, take, replicate, sym, refl, ap, ◌∙◌, subst, ap₂, inl, inr, lt→ltb, arith}
+use Rattle.std.proofs.lemmas.Bool.{cond_both, cond-true, cond-false, ne_eqb, cases_lt}
+use Rattle.std.proofs.lemmas.List.{take_all, take-append-le, length-append, length-replicate, get_or_append_left, get_or-append_right, get_or-replicate, get_or_past}
+use Rattle.standards.specs.Lists.{table, at, all_below}
 use Rattle.standards.specs.Hashes.{draw}
 use Rattle.algebra.specs.Draws.{accepted}
+use Rattle.algebra.proofs.Tests.{from_both}
+use Rattle.algebra.proofs.Tables.{is_table}
 
 -- what holds of every candidate that passes holds of every number drawn
 module _ (P : ℕ → Type 0) (none : P 0) where
@@ -22,6 +23,16 @@ module _ (P : ℕ → Type 0) (none : P 0) where
         (λ _. cond_both (ok k) (val k ∷ draw ok val fuel (k + 1) (need - 1)) (draw ok val fuel (k + 1) need) (λ ys. P (at ys n))
         (λ e. at-cons (val k) (draw ok val fuel (k + 1) (need - 1)) (each k e) (draw_all fuel (k + 1) (need - 1)) n) (λ _. draw_all fuel (k + 1) need n))
 
+-- numbers below q, where each candidate that passes is one
+pub draw_below : (q : ℕ) (ok : ℕ → Bool) (val : ℕ → ℕ) → ((k : ℕ) → ok k ≡ true → val k < q) → (fuel k need : ℕ) → T (all_below q (draw ok val fuel k need))
+unfolding draw all_below
+draw_below q ok val each zero k need = tt
+draw_below q ok val each (suc fuel) k need =
+    let more = draw ok val fuel (k + 1) (need - 1) in
+    cond_both (eqb need 0) [] _ (λ ys. T (all_below q ys)) (λ _. tt)
+    (λ _. cond_both (ok k) (val k ∷ more) (draw ok val fuel (k + 1) need) (λ ys. T (all_below q ys))
+    (λ e. from_both (ltb (val k) q) (all_below q more) (lt→ltb (val k) q (each k e)) (draw_below q ok val each fuel (k + 1) (need - 1))) (λ _. draw_below q ok val each fuel (k + 1) need))
+
 -- ---- a draw takes the first of all candidates that pass
 pub draw-take : (ok : ℕ → Bool) (val : ℕ → ℕ) (fuel k need : ℕ) → draw ok val fuel k need ≡ take need (accepted ok val fuel k)
 unfolding draw accepted
@@ -35,7 +46,7 @@ draw-take ok val (suc fuel) k (suc m) =
     (λ e. cond-true (ok k) _ _ e ∙ ap (λ ys. val k ∷ ys) (ap (draw ok val fuel (k + 1)) {x = suc m - 1} {y = m} (omega arith) ∙ draw-take ok val fuel (k + 1) m))
     (λ e. cond-false (ok k) _ _ e ∙ draw-take ok val fuel (k + 1) (suc m))
 
--- one candidate more, and more of them
+-- more candidates
 pub accepted_add : (ok : ℕ → Bool) (val : ℕ → ℕ) (a b k : ℕ) → accepted ok val (a + b) k ≡ accepted ok val a k ++ accepted ok val b (k + a)
 unfolding accepted
 accepted_add ok val zero b k =
@@ -46,10 +57,6 @@ accepted_add ok val (suc a) b k =
     ap (λ n. accepted ok val n k) {x = suc a + b} {y = suc (a + b)} (omega arith) ∙
     cond_both (ok k) (val k ∷ accepted ok val a (k + 1)) (accepted ok val a (k + 1)) (λ ys. cond (ok k) (val k ∷ accepted ok val (a + b) (k + 1)) (accepted ok val (a + b) (k + 1)) ≡ ys ++ accepted ok val b (k + suc a))
     (λ e. cond-true (ok k) _ _ e ∙ ap (λ ys. val k ∷ ys) more) (λ e. cond-false (ok k) _ _ e ∙ more)
-
-pub accepted_more : (ok : ℕ → Bool) (val : ℕ → ℕ) (n k : ℕ) → accepted ok val (n + 1) k ≡ accepted ok val n k ++ cond (ok (k + n)) (val (k + n) ∷ []) []
-unfolding accepted
-accepted_more ok val n k = accepted_add ok val n 1 k
 
 -- the same candidates, counted otherwise
 pub accepted-same : (ok ok' : ℕ → Bool) (val val' : ℕ → ℕ) (n k k' : ℕ) → ((i : ℕ) → i < n → ok (k + i) ≡ ok' (k' + i)) → ((i : ℕ) → i < n → val (k + i) ≡ val' (k' + i)) → accepted ok val n k ≡ accepted ok' val' n k'
@@ -70,28 +77,28 @@ length-accepted ok val (suc n) k =
     let h = length-accepted ok val n (k + 1) in
     cond_both (ok k) (val k ∷ accepted ok val n (k + 1)) (accepted ok val n (k + 1)) (λ ys. length ys ≤ suc n) (λ _. omega arith) (λ _. omega arith)
 
--- ---- drawing into a row without a branch: the candidate is written behind those that passed, and counts if it passes
-pub counts_one : (t : Bool) → bool_byte t ≤ 1
-counts_one true = omega arith
-counts_one false = omega arith
-
-pub keep_next : (done xs : List ℕ) (have : ℕ) (t : Bool) (v : ℕ) → have < length xs → take have xs ≡ done → take (have + bool_byte t) (set xs have v) ≡ done ++ cond t (v ∷ []) []
-keep_next done xs have true v h e = take_more_set xs have v h ∙ ap (λ ys. ys ++ v ∷ []) e
-keep_next done xs have false v h e = ap (λ n. take n (set xs have v)) {x = have + 0} {y = have} (omega arith) ∙ (take-set xs have v ∙ (e ∙ sym (append-nil done)))
-
+-- ---- the end of a draw
 -- where as many passed as are needed, the draw is full, whatever comes after
-pub draw_full : (ok : ℕ → Bool) (val : ℕ → ℕ) (fuel seen need have : ℕ) (xs : List ℕ) → seen ≤ fuel → need ≤ have → have ≤ length xs → take have xs ≡ accepted ok val seen 0 → take need xs ≡ draw ok val fuel 0 need
-draw_full ok val fuel seen need have xs hs hn hx e =
+pub draw_full : (ok : ℕ → Bool) (val : ℕ → ℕ) (fuel seen need : ℕ) → seen ≤ fuel → need ≤ length (accepted ok val seen 0) → take need (accepted ok val seen 0) ≡ draw ok val fuel 0 need
+draw_full ok val fuel seen need hs hn =
     let all = accepted ok val seen 0 in
     let rest = accepted ok val (fuel - seen) (0 + seen) in
-    let long : have ≡ length all = sym (length-take-le have xs hx) ∙ ap length e in
     sym (draw-take ok val fuel 0 need ∙
     (ap (λ n. take need (accepted ok val n 0)) {x = fuel} {y = seen + (fuel - seen)} (omega arith) ∙
-    (ap (take need) (accepted_add ok val seen (fuel - seen) 0) ∙ (take-append-le need all rest (omega arith) ∙ (ap (take need) (sym e) ∙ take-take need have xs hn)))))
+    (ap (take need) (accepted_add ok val seen (fuel - seen) 0) ∙ take-append-le need all rest hn)))
 
--- where all were looked at and too few passed, it falls short
-pub draw_short : (ok : ℕ → Bool) (val : ℕ → ℕ) (fuel need have : ℕ) (xs : List ℕ) → have < need → have ≤ length xs → take have xs ≡ accepted ok val fuel 0 → length (draw ok val fuel 0 need) < need
-draw_short ok val fuel need have xs hn hx e =
+-- where all were looked at and too few passed, they are all that is drawn
+pub draw_out : (ok : ℕ → Bool) (val : ℕ → ℕ) (fuel need : ℕ) → length (accepted ok val fuel 0) < need → accepted ok val fuel 0 ≡ draw ok val fuel 0 need
+draw_out ok val fuel need h =
     let all = accepted ok val fuel 0 in
-    let long : have ≡ length all = sym (length-take-le have xs hx) ∙ ap length e in
-    omega (arith, ap length (draw-take ok val fuel 0 need ∙ take_all need all (omega arith)))
+    sym (draw-take ok val fuel 0 need ∙ take_all need all (omega arith))
+
+-- noughts in the empty places
+pub padded : (n : ℕ) (xs : List ℕ) → length xs ≤ n → xs ++ replicate (n - length xs) 0 ≡ table n (at xs)
+padded n xs h =
+    let pad : List ℕ = replicate (n - length xs) 0 in
+    is_table n (at xs) (xs ++ pad) (omega (arith, length-append xs pad, length-replicate {A = ℕ} (n - length xs) 0))
+    (λ k l. elim (cases_lt k (length xs)) [
+      | inl a ↦ get_or_append_left xs pad 0 k a
+      | inr a ↦ get_or-append_right xs pad (length xs) k 0 refl a ∙ (get_or-replicate (n - length xs) (k - length xs) 0 0 (omega arith) ∙ sym (get_or_past xs k 0 a))
+    ])

@@ -11,6 +11,7 @@ pub mod Parts
 pub mod RowArrays
 pub mod PolySums
 pub mod Draws
+pub mod Candidates
 pub mod Packing
 pub mod Residues
 pub mod Inverse
@@ -24,5 +25,5 @@ pub mod ForwardLayers
 pub mod InverseLayers
 pub mod LayeredTransforms
 pub mod Words
-pub mod Plain
+pub mod Numbers
 pub mod BaseCase

@@ -4,7 +4,7 @@ use borrow.Rule.Slice.PartMut.{put_mid}
 use Rattle.std.proofs.lemmas.Nat.{mul-le}
 use Rattle.std.proofs.lemmas.List.{length-set, get_or-set_same, get_or-set_other, append-nil}
 use Rattle.std.proofs.lemmas.Slice.{take-put_mid}
-use Rattle.std.proofs.lemmas.Bool.{eqb-true, and_parts}
+use Rattle.std.proofs.lemmas.Bool.{eqb-true, eq-eqb, and_parts}
 use Rattle.standards.specs.Lists.{rows, tables, row_at, joined, all_below, all_full}
 use Rattle.algebra.specs.RowArrays.{RowsFilled}
 use Rattle.algebra.proofs.Rows.{tables-same}
@@ -86,3 +86,15 @@ at_full f i (suc n) (suc k) h l = ap (λ m. length (f m)) {x = i + suc k} {y = i
 
 pub full_at : (n : ℕ) (f : ℕ → List ℕ) → all_full (tables n f) ≡ true → (k : ℕ) → k < n → length (f k) ≡ 256
 full_at n f h k l = ap (λ m. length (f m)) {x = k} {y = 0 + k} (omega arith) ∙ at_full f 0 n k h l
+
+-- all are full if each is, and not if one is not
+pub full_all : (n : ℕ) (f : ℕ → List ℕ) → ((k : ℕ) → k < n → length (f k) ≡ 256) → all_full (tables n f) ≡ true
+full_all zero f h = full_none f
+full_all (suc n) f h = ap (λ m. all_full (tables m f)) {x = suc n} {y = n + 1} (omega arith) ∙ (full_more n f ∙ ap₂ ◌&&◌ (full_all n f (λ k l. h k (omega arith))) (eq-eqb _ _ (h n (omega arith))))
+
+pub not_full : (n : ℕ) (f : ℕ → List ℕ) (k : ℕ) → k < n → length (f k) ≢ 256 → all_full (tables n f) ≡ false
+not_full n f k h short = false_unless (all_full (tables n f)) (λ e. short (full_at n f e k h))
+  where
+    false_unless : (b : Bool) → (b ≡ true → ⊥) → b ≡ false
+    false_unless true never = absurd (never refl)
+    false_unless false never = refl

@@ -34,6 +34,9 @@ filled_pair t f i F x y h d e w =
 pub filled_all : (t : ℕ → ℕ) (f F : List ℕ) (i : ℕ) → 256 ≤ i → Filled t f i F → F ≡ table 256 t
 filled_all t f F i h w = is_table 256 t F w.long (λ k l. w.done k (omega arith))
 
+pub length-numbers : {A : Type 0} (value : A → ℕ) (numbers : List A → List ℕ) → ((xs : List A) → numbers xs ≡ map value xs) → (xs : List A) → length (numbers xs) ≡ length xs
+length-numbers value numbers are xs = ap length (are xs) ∙ length-map xs value
+
 module _ {A : Type 0} (v : A → ℕ) where
   pub read : (xs : List A) (i : ℕ) (d : A) → i < length xs → v (get_or xs i d) ≡ at (map v xs) i
   read xs i d h = sym (get_or-map v xs i d 0 h)

@@ -7,12 +7,13 @@
 ghost use Rattle.std.specs.Prelude.{◌≡◌, ◌^◌, ◌≤◌, T, IfOk, vec_len};
 ghost use Rattle.packing.specs.Widths.{kem_width, dsa_width};
 
-use hex_digits::{read_hex, write_hex};
-use packing::{pack_u16, pack_u32, unpack_u16, unpack_u32};
-use std::alloc::{AllocError, AllocFailed, Global};
-use std::io::{BufRead, BufReader};
+use hex_digits::{hex_text, read_hex};
+use lines::answer_lines;
+use packing::{pack, unpack};
+use std::alloc::{AllocError, Global};
+use std::fmt;
+use std::io::{self, BufReader, LineWriter};
 use std::str::SplitWhitespace;
-use std::{fmt, io};
 
 const USAGE: &str = "a line is: kem|dsa pack WIDTH NUMBERS, or kem|dsa unpack WIDTH DIGITS";
 
@@ -54,12 +55,6 @@ impl fmt::Display for Problem {
 
 impl From<AllocError> for Problem {
     fn from(_e: AllocError) -> Problem {
-        Problem::NoMemory
-    }
-}
-
-impl<T: Drop> From<AllocFailed<T>> for Problem {
-    fn from(_e: AllocFailed<T>) -> Problem {
         Problem::NoMemory
     }
 }
@@ -156,9 +151,7 @@ fn bytes(heap: Global, mut words: SplitWhitespace<'_>, want: usize) -> Result<Ve
 }
 
 fn hex_line(heap: Global, bs: &[u8]) -> Result<String, Problem> {
-    let mut text = Vec::new(heap);
-    write_hex(&mut text, bs)?;
-    Ok(String::from_utf8_lossy(heap, text.as_slice())?)
+    Ok(hex_text(heap, bs)?)
 }
 
 fn number_line(heap: Global, f: &[u32; 256]) -> Result<String, Problem> {
@@ -182,14 +175,14 @@ fn kem_pack(heap: Global, w: KemWidth, words: SplitWhitespace<'_>) -> Result<Str
     }
     let mut room = [0u8; 384];
     let out = &mut room[0..32 * w.d];
-    pack_u16(w.d, &f, out);
+    pack(w.d, &f, out);
     hex_line(heap, out)
 }
 
 fn kem_unpack(heap: Global, w: KemWidth, words: SplitWhitespace<'_>) -> Result<String, Problem> {
     let bs = bytes(heap, words, 32 * w.d)?;
     let mut f = [0u16; 256];
-    unpack_u16(w.d, bs.as_slice(), &mut f);
+    unpack(w.d, bs.as_slice(), &mut f);
     let mut wide = [0u32; 256];
     for i in 0..256 {
         wide[i] = f[i] as u32;
@@ -201,14 +194,14 @@ fn dsa_pack(heap: Global, w: DsaWidth, words: SplitWhitespace<'_>) -> Result<Str
     let f = numbers(words, w.d)?;
     let mut room = [0u8; 640];
     let out = &mut room[0..32 * w.d];
-    pack_u32(w.d, &f, out);
+    pack(w.d, &f, out);
     hex_line(heap, out)
 }
 
 fn dsa_unpack(heap: Global, w: DsaWidth, words: SplitWhitespace<'_>) -> Result<String, Problem> {
     let bs = bytes(heap, words, 32 * w.d)?;
     let mut f = [0u32; 256];
-    unpack_u32(w.d, bs.as_slice(), &mut f);
+    unpack(w.d, bs.as_slice(), &mut f);
     number_line(heap, &f)
 }
 
@@ -240,12 +233,7 @@ fn answer(heap: Global, line: &str) -> Result<String, Problem> {
 
 fn main(rt: HostRuntime) -> io::Result<()> {
     let heap = rt.alloc();
-    for line in BufReader::new(heap, rt.stdin())?.lines(heap) {
-        let text = line?;
-        match answer(heap, text.as_str()) {
-            Ok(shown) => rt.println(shown)?,
-            Err(problem) => println!(rt; "cannot: {problem}")?,
-        }
-    }
-    Ok(())
+    let input = BufReader::new(heap, rt.stdin())?;
+    let mut out = LineWriter::new(heap, io::writer(&rt))?;
+    answer_lines(heap, input, &mut out, |line| answer(heap, line))
 }

@@ -1,0 +1,2 @@
+mod Read
+mod Shown

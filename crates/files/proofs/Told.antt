@@ -1,30 +1,11 @@
--- What the answers of `kem` share: no cause before the call's own, and lines of lent bytes after a call.
-use Rattle.std.proofs.Common.{◌≡◌, ℕ, Bool, true, false, cond, not, eqb, List, ◌++◌, IfOk, Ok, Err, vec_items, Result, Vec, sym, refl, ap, ◌∙◌, arith}
-use Rattle.standards.specs.Calls.{is_set, after}
-use Rattle.files.specs.Texts.{set_of, hex_line, refusal_line, answered}
+-- What the answers of `kem` share.
+use Rattle.std.proofs.Common.{◌≡◌, ℕ, Bool, true, false, ◌||◌, List, Option, Result, Vec}
+use Rattle.standards.specs.Calls.{is_set}
+use Rattle.files.specs.declared.problem.Problem.{Problem}
+use Rattle.files.specs.Texts.{set_of, unreadable, bytes_in}
 use Rattle.files.specs.Kem.{first_of}
-
--- equal bytes are told alike
-pub told : {Z E : Type 0} {x y : List ℕ} (r : Result (Vec ℕ Z) E) → x ≡ y → IfOk r (λ v. vec_items v ≡ x) → IfOk r (λ v. vec_items v ≡ y)
-told (Ok v) p h = h ∙ p
-told (Err e) p h = tt
-
--- a set that is found is one
-pub is_one : (b : Bool) → ◌≡◌ {A = ℕ} 0 (cond b 0 1) → b ≡ true
-is_one true e = refl
-is_one false e = absurd (omega (arith, e))
+use Rattle.files.specs.Problems.{Answers}
 
 -- with no cause before it the answer is the call's
-pub passes : (set : List ℕ) {u t : Bool} (lines : List ℕ) → is_set (set_of set) ≡ true → u ≡ false → t ≡ true → lines ≡ first_of set u t lines
-passes set {u} {t} lines a b c = sym (
-    ap (λ x. cond (not x) (refusal_line 1) (cond u (refusal_line 7) (cond (not t) (refusal_line 2) lines))) a
-    ∙ (ap (λ x. cond x (refusal_line 7) (cond (not t) (refusal_line 2) lines)) b ∙ ap (λ x. cond (not x) (refusal_line 2) lines) c)
-    )
-
-chosen : (b : Bool) (x y old old' other : List ℕ) → cond b (hex_line (cond b x old) ++ hex_line (cond b y old')) other ≡ cond b (hex_line x ++ hex_line y) other
-chosen true x y old old' other = refl
-chosen false x y old old' other = refl
-
--- what was there before a refused call is not printed
-pub answered-after : (n : ℕ) (x y old old' : List ℕ) → answered n (hex_line (after n x old) ++ hex_line (after n y old')) ≡ answered n (hex_line x ++ hex_line y)
-answered-after n x y old old' = chosen (eqb n 0) x y old old' (refusal_line n)
+pub passes : {Z : Type 0} (r : Result (Vec ℕ Z) Problem) (call : ℕ → List ℕ → List ℕ → List ℕ) (set : List ℕ) (a b : Option (List ℕ)) {n : ℕ} {x y : List ℕ} {t : Bool} → Answers r (call n x y) → n ≡ set_of set → is_set n ≡ true → unreadable a || unreadable b ≡ false → t ≡ true → x ≡ bytes_in a → y ≡ bytes_in b → Answers r (first_of set (unreadable a || unreadable b) t (call (set_of set) (bytes_in a) (bytes_in b)))
+passes r call set a b h s i f e p q = rw (← s, i, f, e, ← p, ← q) h

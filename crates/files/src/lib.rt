@@ -2,22 +2,23 @@
 #![tactic(auto)]
 
 pub mod kem;
+pub mod problem;
 pub mod texts;
 
 // Exchanges by the plain hashes: nothing in ML-KEM rests on FIPS 202.
 #[cfg(test)]
 mod tests {
-    use sets::{kem_set, verdict};
+    use sets::types::{KemSet, Refusal};
     use std::alloc::Global;
     use std::process::Abort;
     use std::test::Fail;
 
     // Both sides of an exchange have one key, a spoiled ciphertext gives another, and an encapsulation key whose matrix can't be drawn is refused.
     fn exchange(rt: &impl Abort, heap: Global, set: u8) -> Result<(), Fail> {
-        let p = kem_set(set)?;
-        let mut ek = vec![in heap; 0u8; 384 * p.k + 32]?;
-        let mut dk = vec![in heap; 0u8; 768 * p.k + 96]?;
-        let mut c = vec![in heap; 0u8; 32 * (p.du * p.k + p.dv)]?;
+        let p = KemSet::try_from(set)?;
+        let mut ek = vec![in heap; 0u8; p.ek_length()]?;
+        let mut dk = vec![in heap; 0u8; p.dk_length()]?;
+        let mut c = vec![in heap; 0u8; p.text_length()]?;
         let mut sent = [0u8; 32];
         let mut got = [0u8; 32];
         let mut other = [0u8; 32];
@@ -46,7 +47,7 @@ mod tests {
 
     #[test]
     fn exchanges(rt: HostRuntime) -> Result<(), Fail> {
-        for set in 1..4 {
+        for set in 1..=3 {
             exchange(&rt, rt.alloc(), set)?;
         }
         Ok(())
@@ -54,28 +55,28 @@ mod tests {
 
     // A key of noughts but for a first byte of rho that is 255: the first draw gets nothing but 255.
     fn refused(rt: &impl Abort, heap: Global, set: u8) -> Result<(), Fail> {
-        let p = kem_set(set)?;
-        let mut ek = vec![in heap; 0u8; 384 * p.k]?;
+        let p = KemSet::try_from(set)?;
+        let mut ek = vec![in heap; 0u8; p.ek_length() - 32]?;
         ek.push(255)?;
-        ek.resize(384 * p.k + 32, 0)?;
-        let mut c = vec![in heap; 9u8; 32 * (p.du * p.k + p.dv)]?;
+        ek.resize(p.ek_length(), 0)?;
+        let mut c = vec![in heap; 9u8; p.text_length()]?;
         let mut key = [9u8; 32];
-        let n = verdict(mlkem::encapsulate::<plain::Plain>(
+        let done = mlkem::encapsulate::<plain::Plain>(
             set,
             ek.as_slice(),
             &[7; 32],
             &mut key,
             c.as_mut_slice(),
-        ));
-        assert_eq!(rt; n, 4);
+        );
+        assert_eq!(rt; done, Err(Refusal::Draw));
         assert_eq!(rt; key, [9; 32]);
-        assert_eq!(rt; c, vec![in heap; 9u8; 32 * (p.du * p.k + p.dv)]?);
+        assert_eq!(rt; c, vec![in heap; 9u8; p.text_length()]?);
         Ok(())
     }
 
     #[test]
     fn failed_draws(rt: HostRuntime) -> Result<(), Fail> {
-        for set in 1..4 {
+        for set in 1..=3 {
             refused(&rt, rt.alloc(), set)?;
         }
         Ok(())

@@ -1,46 +1,58 @@
 // The words, files and lines of the programs.
-ghost use Rattle.std.specs.Prelude.{◌≡◌, true, false, ◌++◌, length, IfOk, MatchOption, OnOk, ◌≢◌};
-ghost use Rattle.files.specs.Texts.{most_text, set_of, text_of, unreadable, bytes_in, hex_line, refusal_line, answered};
+ghost use Rattle.std.specs.Prelude.{◌≡◌, ℕ, true, false, List, ◌++◌, length, IfOk, MatchResult, OnOk, ◌≢◌, ◌||◌};
+ghost use Rattle.standards.specs.Calls.{is_set};
+ghost use Rattle.files.specs.Texts.{most_text, set_of, text_of, unreadable, bytes_in, hex_line};
+ghost use Rattle.files.specs.Problems.{IsRefusal, Answers};
 
+use crate::problem::Problem;
 use hex_digits::{read_hex, write_hex};
+use sets::types::Refusal;
 use std::alloc::{AllocError, Global};
 
 // The longest text that is taken: the digits of 4 MiB of bytes, and as much for spaces and line ends.
 pub const MOST_TEXT: usize = 16777216;
 
-// The set that a word names, or 0.
-pub fn set_number(word: &[u8]) -> u8
-    ensures { result ≡ set_of word.now }
+// The number of the set that a word names.
+pub fn set_number(word: &[u8]) -> Result<u8, Refusal>
+    ensures { MatchResult result (λ n. (n ≡ set_of word.now) × (is_set n ≡ true)) (λ e. (e ≡ Refusal.NoSet) × (set_of word.now ≡ 0)) }
 {
     match word {
-        [c] if *c >= b'1' && *c <= b'3' => *c - b'0',
-        _ => 0,
+        [c @ b'1'..=b'3'] => Ok(*c - b'0'),
+        _ => Err(Refusal::NoSet),
     }
 }
 
-// The bytes of a file, or nothing if it can't be read or isn't hexadecimal. Of a text that is too long there are none, and no length is right.
-pub fn bytes(heap: Global, file: &Option<Vec<u8>>) -> Result<Option<Vec<u8>>, AllocError>
-    ensures { IfOk result (λ o. MatchOption o (unreadable (text_of file.now) ≡ true) (λ v. (unreadable (text_of file.now) ≡ false) × (v.items ≡ bytes_in (text_of file.now)))) }
+// The bytes of a file, if it can be read and is hexadecimal. Of a text that is too long there are none, and no length is right.
+pub fn bytes(heap: Global, file: &Option<Vec<u8>>) -> Result<Vec<u8>, Problem>
+    ensures { MatchResult result
+        (λ v. (unreadable (text_of file.now) ≡ false) × (v.items ≡ bytes_in (text_of file.now)))
+        (λ p. IsRefusal p 7 (unreadable (text_of file.now) ≡ true)) }
 {
-    let Some(text) = file else {
-        return Ok(None);
-    };
+    let text = file.as_ref().ok_or(Problem::Unreadable)?;
     if text.len() > MOST_TEXT {
-        return Ok(Some(Vec::new(heap)));
+        return Ok(Vec::new(heap));
     }
-    read_hex(heap, text.as_slice())
+    read_hex(heap, text.as_slice())?.ok_or(Problem::Unreadable)
+}
+
+// The bytes of two files.
+pub fn both(
+    heap: Global,
+    first: &Option<Vec<u8>>,
+    second: &Option<Vec<u8>>,
+) -> Result<(Vec<u8>, Vec<u8>), Problem>
+    ensures { MatchResult result
+        (λ f. (unreadable (text_of first.now) || unreadable (text_of second.now) ≡ false) × (f.0.items ≡ bytes_in (text_of first.now)) × (f.1.items ≡ bytes_in (text_of second.now)))
+        (λ p. IsRefusal p 7 (unreadable (text_of first.now) || unreadable (text_of second.now) ≡ true)) }
+{
+    Ok((bytes(heap, first)?, bytes(heap, second)?))
 }
 
 // A seed or a coin: 32 bytes.
-pub fn seed(bytes: &[u8]) -> Option<[u8; 32]>
-    ensures { MatchOption result (length bytes.now ≢ 32) (λ s. (s ≡ bytes.now) × (length bytes.now ≡ 32)) }
+pub fn seed(bytes: &[u8]) -> Result<[u8; 32], Refusal>
+    ensures { MatchResult result (λ s. (s ≡ bytes.now) × (length bytes.now ≡ 32)) (λ e. (e ≡ Refusal.Length) × (length bytes.now ≢ 32)) }
 {
-    if bytes.len() != 32 {
-        return None;
-    }
-    let mut s = [0u8; 32];
-    s.copy_from_slice(bytes);
-    Some(s)
+    <[u8; 32]>::try_from(bytes).map_err(|_| Refusal::Length)
 }
 
 // Adds a line of digits to a text.
@@ -52,33 +64,31 @@ pub fn hex_line(text: &mut Vec<u8>, bytes: &[u8]) -> Result<(), AllocError>
     Ok(())
 }
 
-// The line of a refusal.
-pub fn refusal(heap: Global, n: u32) -> Result<Vec<u8>, AllocError>
-    ensures { IfOk result (λ v. v.items ≡ refusal_line n) }
+// A line of digits.
+pub fn one_line(heap: Global, a: &[u8]) -> Result<Vec<u8>, AllocError>
+    ensures { IfOk result (λ v. v.items ≡ hex_line a.now) }
 {
-    let line = format!(in heap; "no {n}\n")?;
-    Vec::from_slice(heap, line.as_str().as_bytes())
-}
-
-// A line of digits, or that of the refusal, if the number isn't 0.
-pub fn one_line(heap: Global, n: u32, a: &[u8]) -> Result<Vec<u8>, AllocError>
-    ensures { IfOk result (λ v. v.items ≡ answered n (hex_line a.now)) }
-{
-    if n != 0 {
-        return refusal(heap, n);
-    }
     let mut text = Vec::new(heap);
     hex_line(&mut text, a)?;
     Ok(text)
 }
 
-// Two lines of digits, or that of the refusal.
-pub fn two_lines(heap: Global, n: u32, a: &[u8], b: &[u8]) -> Result<Vec<u8>, AllocError>
-    ensures { IfOk result (λ v. v.items ≡ answered n (hex_line a.now ++ hex_line b.now)) }
+// Two lines of digits.
+pub fn two_lines(heap: Global, a: &[u8], b: &[u8]) -> Result<Vec<u8>, AllocError>
+    ensures { IfOk result (λ v. v.items ≡ hex_line a.now ++ hex_line b.now) }
 {
-    let mut text = one_line(heap, n, a)?;
-    if n == 0 {
-        hex_line(&mut text, b)?;
-    }
+    let mut text = one_line(heap, a)?;
+    hex_line(&mut text, b)?;
     Ok(text)
+}
+
+// What is printed: the lines, or that of the refusal. Want of memory prints nothing, and is passed on.
+pub fn told(heap: Global, lines: Result<Vec<u8>, Problem>) -> Result<Vec<u8>, AllocError>
+    ensures { (text : List ℕ) → Answers lines text → IfOk result (λ v. v.items ≡ text) }
+{
+    match lines {
+        Ok(text) => Ok(text),
+        Err(Problem::NoMemory(e)) => Err(e),
+        Err(refusal) => Ok(format!(in heap; "no {refusal}\n")?.into_bytes()),
+    }
 }

@@ -10,7 +10,7 @@ ghost use Rattle.fips202_laws.proofs.Fairness.{hashes_are_fair};
 
 use crate::sponge::{Sponge, Squeezer};
 use hash::in_turn::InTurn;
-use hash::{Digest, FourReaders, Hash, Reader, Xof};
+use hash::{Absorb, Digest, FourReaders, Hash, Reader, Xof};
 
 const SHA3: u8 = 0x06;
 
@@ -30,14 +30,20 @@ pub struct Shake<const RATE: usize> {
     sponge: Sponge<RATE>,
 }
 
-impl<const RATE: usize> Xof for Shake<RATE> {
-    type Output = Squeezer<RATE>;
+pub type Shake128 = Shake<168>;
 
+pub type Shake256 = Shake<136>;
+
+impl<const RATE: usize> Absorb for Shake<RATE> {
     ghost stream = { λ s. stream_from RATE 31 s.sponge.lanes s.sponge.place };
 
     fn absorb(&mut self, part: &[u8]) {
         self.sponge.absorb(part);
     }
+}
+
+impl<const RATE: usize> Xof for Shake<RATE> {
+    type Output = Squeezer<RATE>;
 
     fn finish(self) -> Squeezer<RATE> {
         let Shake { sponge } = self;
@@ -45,44 +51,29 @@ impl<const RATE: usize> Xof for Shake<RATE> {
     }
 }
 
+// SHA3-256 or SHA3-512 while it takes its message.
 #[derive(Drop)]
-pub struct Sha3_256 {
-    sponge: Sponge<136>,
+pub struct Sha3<const RATE: usize, const N: usize> {
+    sponge: Sponge<RATE>,
 }
 
-impl Digest<32> for Sha3_256 {
-    ghost digest = { λ s m. table 32 (stream_from 136 6 s.sponge.lanes s.sponge.place m) };
+pub type Sha3_256 = Sha3<136, 32>;
+
+pub type Sha3_512 = Sha3<72, 64>;
+
+impl<const RATE: usize, const N: usize> Absorb for Sha3<RATE, N> {
+    ghost stream = { λ s. stream_from RATE 6 s.sponge.lanes s.sponge.place };
 
     fn absorb(&mut self, part: &[u8]) {
         self.sponge.absorb(part);
     }
-
-    fn finish(self) -> [u8; 32] {
-        let Sha3_256 { sponge } = self;
-        let mut squeezer = sponge.finish(SHA3);
-        let mut out = [0; 32];
-        squeezer.squeeze(&mut out);
-        out
-    }
 }
 
-#[derive(Drop)]
-pub struct Sha3_512 {
-    sponge: Sponge<72>,
-}
-
-impl Digest<64> for Sha3_512 {
-    ghost digest = { λ s m. table 64 (stream_from 72 6 s.sponge.lanes s.sponge.place m) };
-
-    fn absorb(&mut self, part: &[u8]) {
-        self.sponge.absorb(part);
-    }
-
-    fn finish(self) -> [u8; 64] {
-        let Sha3_512 { sponge } = self;
-        let mut squeezer = sponge.finish(SHA3);
-        let mut out = [0; 64];
-        squeezer.squeeze(&mut out);
+impl<const RATE: usize, const N: usize> Digest<N> for Sha3<RATE, N> {
+    fn finish(self) -> [u8; N] {
+        let Sha3 { sponge } = self;
+        let mut out = [0; N];
+        sponge.finish(SHA3).squeeze(&mut out);
         out
     }
 }
@@ -92,49 +83,49 @@ pub struct Fips202;
 impl Hash for Fips202 {
     type Reader128 = Squeezer<168>;
 
-    type Shake128 = Shake<168>;
+    type Shake128 = Shake128;
 
     type Reader256 = Squeezer<136>;
 
-    type Shake256 = Shake<136>;
+    type Shake256 = Shake256;
 
     type Sha3_256 = Sha3_256;
 
     type Sha3_512 = Sha3_512;
 
-    type FourShake128 = InTurn<Squeezer<168>>;
+    type FourShake128 = InTurn<Self::Reader128>;
 
-    type FourShake256 = InTurn<Squeezer<136>>;
+    type FourShake256 = InTurn<Self::Reader256>;
 
     ghost hashes = { fips202 };
 
     ghost fair = { hashes_are_fair };
 
-    fn open_shake128() -> Shake<168> {
+    fn open_shake128() -> Self::Shake128 {
         Shake {
             sponge: Sponge::new(),
         }
     }
 
-    fn open_shake256() -> Shake<136> {
+    fn open_shake256() -> Self::Shake256 {
         Shake {
             sponge: Sponge::new(),
         }
     }
 
-    fn open_sha3_256() -> Sha3_256 {
-        Sha3_256 {
+    fn open_sha3_256() -> Self::Sha3_256 {
+        Sha3 {
             sponge: Sponge::new(),
         }
     }
 
-    fn open_sha3_512() -> Sha3_512 {
-        Sha3_512 {
+    fn open_sha3_512() -> Self::Sha3_512 {
+        Sha3 {
             sponge: Sponge::new(),
         }
     }
 
-    fn four_shake128(a: &[u8], b: &[u8], c: &[u8], d: &[u8]) -> InTurn<Squeezer<168>> {
+    fn four_shake128(a: &[u8], b: &[u8], c: &[u8], d: &[u8]) -> Self::FourShake128 {
         InTurn {
             first: Self::shake128(a, &[]),
             second: Self::shake128(b, &[]),
@@ -143,7 +134,7 @@ impl Hash for Fips202 {
         }
     }
 
-    fn four_shake256(a: &[u8], b: &[u8], c: &[u8], d: &[u8]) -> InTurn<Squeezer<136>> {
+    fn four_shake256(a: &[u8], b: &[u8], c: &[u8], d: &[u8]) -> Self::FourShake256 {
         InTurn {
             first: Self::shake256(a, &[]),
             second: Self::shake256(b, &[]),
@@ -154,11 +145,13 @@ impl Hash for Fips202 {
 }
 
 // FIPS 202's functions give bytes, and of the right length.
+#[tactic(auto, using(fips202_laws::proofs::Fairness::hashes_are_fair))]
 pub fn hashes_are_fair()
     ensures { HashesAreFair }
 {}
 
 // The first bytes of two digests.
+#[tactic(auto, using(fips202_laws::proofs::Digests::digest_cases))]
 pub fn digest_cases()
     ensures { DigestCases }
 {}

@@ -26,6 +26,7 @@ fn lane_at(bytes: &[u8], i: usize) -> u64
 }
 
 // Puts whole lanes in, from lane `first` on.
+#[tactic(auto, using(algebra::proofs::Tables::is_table))]
 fn mix_lanes(lanes: &mut [u64; 25], first: usize, part: &[u8])
     requires part_len { length part.now % 8 ≡ 0 }
     requires part_bound { 8 * first + length part.now ≤ 200 }
@@ -37,6 +38,7 @@ fn mix_lanes(lanes: &mut [u64; 25], first: usize, part: &[u8])
 }
 
 // Puts one byte in.
+#[tactic(auto, using(fips202_laws::proofs::Lanes::byte_moved))]
 fn mix_byte(lanes: &mut [u64; 25], place: usize, b: u8)
     requires { place < 200 }
     ensures { lanes.new ≡ mixed_byte lanes.old place b }
@@ -45,6 +47,7 @@ fn mix_byte(lanes: &mut [u64; 25], place: usize, b: u8)
 }
 
 // The bytes of the lanes, the lowest of each first.
+#[tactic(auto, using(algebra::proofs::Tables::is_table))]
 fn unpacked(lanes: &[u64; 25]) -> [u8; 200]
     ensures { result ≡ table 200 (state_byte lanes.now) }
 {
@@ -64,6 +67,7 @@ pub struct Sponge<const RATE: usize> {
 }
 
 impl<const RATE: usize> Sponge<RATE> {
+    #[tactic(auto, unfolding(standards::specs::Lists::from))]
     pub fn new() -> Self
         requires rate_nonzero { 0 < RATE }
         requires value { RATE % 8 ≡ 0 }
@@ -78,6 +82,7 @@ impl<const RATE: usize> Sponge<RATE> {
     }
 
     // Counts n bytes more as put in, and permutes a block that is full.
+    #[tactic(auto, using(fips202_laws::proofs::Absorbing::absorbs_full))]
     fn advance(&mut self, n: usize)
         requires { self.old.place + n ≤ RATE }
         ensures { (suffix : ℕ) (m : List ℕ) → absorbed_from RATE suffix self.new.lanes self.new.place m ≡ absorbed_from RATE suffix self.old.lanes (self.old.place + n) m }
@@ -92,6 +97,7 @@ impl<const RATE: usize> Sponge<RATE> {
     }
 
     // Takes in as much of the part as goes in at once: whole lanes up to the block's end, or else one byte.
+    #[tactic(auto, using(fips202_laws::proofs::Absorbing::absorbs_byte))]
     fn absorb_some(&mut self, part: &[u8]) -> usize
         requires { 0 < length part.now }
         ensures some { 0 < result }
@@ -101,7 +107,7 @@ impl<const RATE: usize> Sponge<RATE> {
         let left = part.len();
         if self.place % 8 == 0 && left >= 8 {
             let n = (RATE - self.place).min(left - left % 8);
-            mix_lanes(&mut self.lanes, self.place / 8, &part[0..n]);
+            mix_lanes(&mut self.lanes, self.place / 8, &part[..n]);
             self.advance(n);
             n
         } else {
@@ -111,12 +117,15 @@ impl<const RATE: usize> Sponge<RATE> {
         }
     }
 
+    // Takes in a part of any length.
+    #[tactic(auto, using(fips202_laws::proofs::Absorbing::absorbs_rest))]
     pub fn absorb(&mut self, part: &[u8])
         ensures { Absorbs RATE self.old.lanes self.old.place part.now self.new.lanes self.new.place }
     {
-        let mut done = 0;
-        while done < part.len() {
-            done += self.absorb_some(&part[done..]);
+        let mut rest = part;
+        while !rest.is_empty() {
+            let n = self.absorb_some(rest);
+            rest = &rest[n..];
         }
     }
 
@@ -154,6 +163,7 @@ impl<const RATE: usize> Squeezer<RATE> {
     }
 
     // Gives as many bytes as the block has left, if `out` has room for them.
+    #[tactic(auto, using(fips202_laws::proofs::Reading::read_part))]
     fn squeeze_some(&mut self, out: &mut [u8]) -> usize
         requires { 0 < length out.old }
         ensures some { 0 < result }
@@ -164,11 +174,12 @@ impl<const RATE: usize> Squeezer<RATE> {
         self.turn();
         let n = (RATE - self.place).min(out.len());
         let bytes = unpacked(&self.lanes);
-        out[0..n].copy_from_slice(&bytes[self.place..self.place + n]);
+        out[..n].copy_from_slice(&bytes[self.place..self.place + n]);
         self.place += n;
         n
     }
 
+    // Fills `out`.
     pub fn squeeze(&mut self, out: &mut [u8])
         ensures bytes { out.new ≡ table (length out.old) (read_from RATE self.old.lanes self.old.place) }
         ensures onward { read_from RATE self.new.lanes self.new.place ≡ later (length out.old) (read_from RATE self.old.lanes self.old.place) }

@@ -1,30 +1,27 @@
 -- The end of a message: the suffix and the padding's last bit are put into the lanes as two bytes.
-use Rattle.std.proofs.Common.{◌≡◌, ℕ, ◌+◌, ◌-◌, ◌*◌, ◌/◌, ◌%◌, ◌^◌, ◌<◌, ◌≤◌, cond, eqb, ltb, List, [], ◌∷◌, length, set, replicate, sym, refl, ap, ◌∙◌, subst, ap₂, inl, inr, add-zero, zero-add, arith}
-use mathlib.Core.Path.{fun_ext}
-use native.Mathlib.Nat.{div-eq_of_lt}
-use lib.Bits.{bit_xor, xor_assoc, xor_comm, xor_shifted}
-use Rattle.std.proofs.lemmas.List.{length-set, length-replicate, get_or-set_same, set-set, get_or_past, append-nil}
-use Rattle.std.proofs.lemmas.Bool.{cases_lt, cond-true, cond-false, lt-ltb, le-ltb, eq-eqb, ne_eqb}
+use Rattle.std.proofs.Common.{◌≡◌, ℕ, ◌+◌, ◌-◌, ◌*◌, ◌/◌, ◌%◌, ◌^◌, ◌<◌, ◌≤◌, cond, eqb, ltb, List, [], ◌∷◌, length, replicate, sym, refl, ap, ◌∙◌, ap₂, inl, inr, zero-add, arith}
+use Rattle.std.proofs.Math.Path.{fun_ext}
+use Rattle.std.proofs.Math.Nat.{div-eq_of_lt}
+use Rattle.std.specs.Int.Bits.{bit_xor, xor_assoc, xor_comm, xor_shifted}
+use Rattle.std.proofs.lemmas.List.{length-set, length-replicate, get_or-set_same, set-set, append-nil}
+use Rattle.std.proofs.lemmas.Bool.Decides.{nat_tests}
+use Rattle.std.proofs.lemmas.Bool.{cases_lt}
 use Rattle.standards.specs.Lists.{table, at}
 use Rattle.standards.specs.Fips202.{padded, absorb_block, absorb_blocks, permuted, state_byte, keccak_f}
-use Rattle.algebra.proofs.Tables.{length-table, at_table}
 use Rattle.fips202_laws.specs.Sponges.{absorbed_from, stream_from, read_from, mixed_byte}
-use Rattle.fips202_laws.proofs.Patches.{Patch, byte_merged}
-use Rattle.fips202_laws.proofs.Absorbing.{blank_block, noughts_at}
+use Rattle.fips202_laws.proofs.Patches.{Patch, byte_merged, table_at, noughts_at}
+use Rattle.fips202_laws.proofs.Absorbing.{blank_block}
 
 -- two bytes at one place, the higher bit apart
 twice : (a : List ℕ) (p s : ℕ) → p / 8 < length a → p % 8 ≡ 7 → s < 128 → mixed_byte (mixed_byte a p s) p 128 ≡ mixed_byte a p (s + 128)
 twice a p s inside seven small =
-    let i : ℕ = p / 8 in
-    let e : ℕ = 256 ^ (p % 8) in
-    let x : ℕ = bit_xor (at a i) (s * e) in
-    let top : bit_xor (s * 256 ^ 7) (128 * 256 ^ 7) ≡ (s + 128) * 256 ^ 7 =
     let sum : 1 * 2 ^ 63 + s * 256 ^ 7 ≡ (s + 128) * 256 ^ 7 = omega arith in
     let fits : s * 256 ^ 7 < 2 ^ 63 = omega arith in
-    xor_comm (s * 256 ^ 7) (128 * 256 ^ 7) ∙ (xor_shifted 1 63 (s * 256 ^ 7) fits ∙ sum) in
-    let both : bit_xor (s * e) (128 * e) ≡ (s + 128) * e = subst (λ j. bit_xor (s * 256 ^ j) (128 * 256 ^ j) ≡ (s + 128) * 256 ^ j) (sym seven) top in
-    set-set a i x (bit_xor (at (set a i x) i) (128 * e)) ∙
-    ap (set a i) (ap (λ y. bit_xor y (128 * e)) (get_or-set_same a i x 0 inside) ∙ (xor_assoc (at a i) (s * e) (128 * e) ∙ ap (bit_xor (at a i)) both))
+    let top : bit_xor (s * 256 ^ 7) (128 * 256 ^ 7) ≡ (s + 128) * 256 ^ 7 = xor_comm (s * 256 ^ 7) (128 * 256 ^ 7) ∙ (xor_shifted 1 63 (s * 256 ^ 7) fits ∙ sum) in
+    rw (seven, set-set a (p / 8), get_or-set_same a (p / 8) (bit_xor (at a (p / 8)) (s * 256 ^ 7)) 0 inside, xor_assoc (at a (p / 8)) (s * 256 ^ 7) (128 * 256 ^ 7), top)
+
+at_own : (b k p : ℕ) → k ≡ p → at (b ∷ []) (k - p) ≡ b
+at_own b k p e = ap (at (b ∷ [])) {x = k - p} {y = 0} (omega arith)
 
 module _ (rate suffix place : ℕ) (a : List ℕ) (long : length a ≡ 25) (low : place < rate) (high : rate ≤ 200) (lanes : rate % 8 ≡ 0) (small : suffix < 128) where
   abbrev last_bit : ℕ → ℕ
@@ -33,66 +30,42 @@ module _ (rate suffix place : ℕ) (a : List ℕ) (long : length a ≡ 25) (low 
   abbrev noughts : List ℕ
   noughts = replicate place 0
 
-  abbrev byte : ℕ → ℕ → ℕ
-  byte n k = cond (ltb k n) (at noughts k) (cond (eqb k n) (suffix + last_bit k) (last_bit k))
-
-  block_at : (k : ℕ) → k < rate → at (padded rate suffix noughts) k ≡ byte place k
-  block_at k h = at_table rate (byte (length noughts)) k h ∙ ap (λ n. byte n k) (length-replicate {A = ℕ} place 0)
-
-  block_before : (k : ℕ) → k < place → at (padded rate suffix noughts) k ≡ 0
-  block_before k h = block_at k (omega arith) ∙ (cond-true (ltb k place) (at noughts k) _ (lt-ltb k place h) ∙ noughts_at place k)
-
-  block_own : (k : ℕ) → k ≡ place → at (padded rate suffix noughts) k ≡ suffix + last_bit k
-  block_own k e = block_at k (omega arith) ∙ (cond-false (ltb k place) (at noughts k) _ (le-ltb k place (omega arith)) ∙ cond-true (eqb k place) (suffix + last_bit k) (last_bit k) (eq-eqb k place e))
-
-  block_behind : (k : ℕ) → place < k → k < rate → at (padded rate suffix noughts) k ≡ last_bit k
-  block_behind k l h =
-      block_at k h ∙ (cond-false (ltb k place) (at noughts k) _ (le-ltb k place (omega arith)) ∙ cond-false (eqb k place) (suffix + last_bit k) (last_bit k) (ne_eqb k place (λ e. omega arith)))
-
-  block_past : (k : ℕ) → rate ≤ k → at (padded rate suffix noughts) k ≡ 0
-  block_past k h = get_or_past (padded rate suffix noughts) k 0 (omega (arith, length-table rate (byte (length noughts))))
-
-  no_bit : (k : ℕ) → k < rate - 1 → last_bit k ≡ 0
-  no_bit k h = cond-false (eqb k (rate - 1)) 128 0 (ne_eqb k (rate - 1) (λ e. omega arith))
-
-  its_bit : (k : ℕ) → k ≡ rate - 1 → last_bit k ≡ 128
-  its_bit k e = cond-true (eqb k (rate - 1)) 128 0 (eq-eqb k (rate - 1) e)
+  abbrev block : List ℕ
+  block = padded rate suffix noughts
 
   -- a block with nothing but the last bit
   abbrev bit_block : List ℕ
   bit_block = table rate last_bit
 
-  bit_past : (k : ℕ) → rate ≤ k → at bit_block k ≡ 0
-  bit_past k h = get_or_past bit_block k 0 (omega (arith, length-table rate last_bit))
+  block_at : (k : ℕ) → at block k ≡ cond (ltb k rate) (cond (ltb k place) 0 (cond (eqb k place) (suffix + last_bit k) (last_bit k))) 0
+  block_at k =
+      let is = table_at rate (λ i. cond (ltb i (length noughts)) (at noughts i) (cond (eqb i (length noughts)) (suffix + last_bit i) (last_bit i))) k in
+      let none = noughts_at place k in
+      let size = length-replicate {A = ℕ} place 0 in
+      rw (is, none, size)
 
-  at_own : (b k p : ℕ) → p ≤ k → k < p + 1 → b ≡ at (b ∷ []) (k - p)
-  at_own b k p l h = ap (at (b ∷ [])) {x = 0} {y = k - p} (omega arith)
-
-  suffix_patch : place < rate - 1 → Patch place 1 (suffix ∷ []) (padded rate suffix noughts) bit_block
+  suffix_patch : place < rate - 1 → Patch place 1 (suffix ∷ []) block bit_block
   suffix_patch l = record {
-    before = λ k h. block_before k h ∙ sym (at_table rate last_bit k (omega arith) ∙ no_bit k (omega arith));
-    inside = λ k g h. block_own k (omega arith) ∙ (ap (λ x. suffix + x) (no_bit k (omega arith)) ∙ (add-zero suffix ∙ at_own suffix k place g h));
-    blank = λ k h. at_table rate last_bit k (omega arith) ∙ no_bit k (omega arith);
-    beyond = λ k h. elim (cases_lt k rate) [
-      | inl g ↦ block_behind k (omega arith) g ∙ sym (at_table rate last_bit k g)
-      | inr g ↦ block_past k g ∙ sym (bit_past k g)
-    ];
+    before = λ k h. grind (arith, nat_tests, block_at k, table_at rate last_bit k);
+    inside = λ k g h. grind (arith, nat_tests, block_at k, at_own suffix k place (omega arith));
+    blank = λ k h. grind (arith, nat_tests, table_at rate last_bit k);
+    beyond = λ k h. grind (arith, nat_tests, block_at k, table_at rate last_bit k);
   }
 
   bit_patch : Patch (rate - 1) 1 (128 ∷ []) bit_block []
   bit_patch = record {
-    before = λ k h. at_table rate last_bit k (omega arith) ∙ no_bit k h;
-    inside = λ k g h. at_table rate last_bit k (omega arith) ∙ (its_bit k (omega arith) ∙ at_own 128 k (rate - 1) g h);
+    before = λ k h. grind (arith, nat_tests, table_at rate last_bit k);
+    inside = λ k g h. grind (arith, nat_tests, table_at rate last_bit k, at_own 128 k (rate - 1) (omega arith));
     blank = λ k h. refl;
-    beyond = λ k h. bit_past k (omega arith);
+    beyond = λ k h. grind (arith, nat_tests, table_at rate last_bit k);
   }
 
-  both_patch : place ≡ rate - 1 → Patch place 1 ((suffix + 128) ∷ []) (padded rate suffix noughts) []
+  both_patch : place ≡ rate - 1 → Patch place 1 ((suffix + 128) ∷ []) block []
   both_patch e = record {
-    before = block_before;
-    inside = λ k g h. block_own k (omega arith) ∙ (ap (λ x. suffix + x) (its_bit k (omega arith)) ∙ at_own (suffix + 128) k place g h);
+    before = λ k h. grind (arith, nat_tests, block_at k);
+    inside = λ k g h. grind (arith, nat_tests, block_at k, at_own (suffix + 128) k place (omega arith));
     blank = λ k h. refl;
-    beyond = λ k h. block_past k (omega arith);
+    beyond = λ k h. grind (arith, nat_tests, block_at k);
   }
 
   abbrev suffixed : List ℕ
@@ -104,7 +77,7 @@ module _ (rate suffix place : ℕ) (a : List ℕ) (long : length a ≡ 25) (low 
   emptied : (b : List ℕ) (p v : ℕ) → length b ≡ 25 → absorb_block rate [] (mixed_byte b p v) ≡ keccak_f (mixed_byte b p v)
   emptied b p v len = blank_block rate (mixed_byte b p v) [] (length-set b (p / 8) _ ∙ len) (λ k. refl)
 
-  last_block : absorb_block rate (padded rate suffix noughts) a ≡ keccak_f (mixed_byte suffixed (rate - 1) 128)
+  last_block : absorb_block rate block a ≡ keccak_f (mixed_byte suffixed (rate - 1) 128)
   last_block = elim (cases_lt place (rate - 1)) [
     | inl l ↦
         byte_merged place rate suffix a _ _ long low high (omega arith) (suffix_patch l) ∙

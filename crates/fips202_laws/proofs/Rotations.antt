@@ -1,11 +1,9 @@
 -- What `rotate_left` gives is a lane turned left.
-use Rattle.std.proofs.Common.{◌≡◌, ℕ, zero, suc, ◌+◌, ◌-◌, ◌*◌, ◌/◌, ◌%◌, ◌^◌, ◌<◌, T, ◌∙◌, ap₂, add-zero, mod-eq_of_lt, arith}
-use native.Mathlib.Nat.{mul-mod_left}
-use lib.Bits.{bit_or, or_shifted, or_self}
+use Rattle.std.proofs.Common.{◌≡◌, ℕ, zero, suc, ◌+◌, ◌-◌, ◌*◌, ◌/◌, ◌%◌, ◌^◌, ◌<◌, ◌∙◌, add-zero, mod-eq_of_lt, arith}
+use Rattle.std.proofs.Math.Nat.{mul-mod_left}
+use Rattle.std.specs.Int.Bits.{bit_or, or_shifted, or_self}
 use Rattle.std.proofs.lemmas.Nat.{mod-pow-add, shl-shr, shr_below}
-use Rattle.standards.specs.Lists.{at, all_below}
-use Rattle.standards.specs.Fips202.{rotl, rho_offsets}
-use Rattle.algebra.proofs.Tables.{at_below}
+use Rattle.standards.specs.Fips202.{rotl}
 
 -- the low j bits of x, moved up by k
 shifted : (x j k : ℕ) → (x * 2 ^ k) % 2 ^ (j + k) ≡ (x % 2 ^ j) * 2 ^ k
@@ -16,10 +14,9 @@ parted x j k h = rw shifted (or_shifted (x % 2 ^ j) k (x / 2 ^ j) (shr_below x k
 
 whole : (x : ℕ) → x < 2 ^ 64 → bit_or ((x * 1) % 2 ^ 64) (x / 1) ≡ (x * 1) % 2 ^ 64 + x / 2 ^ 64
 whole x h =
-    let a : (x * 1) % 2 ^ 64 ≡ x = omega arith in
-    let b : x / 1 ≡ x = omega arith in
-    let d : x ≡ (x * 1) % 2 ^ 64 + x / 2 ^ 64 = omega arith in
-    ap₂ bit_or a b ∙ (or_self x ∙ d)
+    let low : (x * 1) % 2 ^ 64 ≡ x = omega arith in
+    let high : x / 1 ≡ x = omega arith in
+    rw (low, high, or_self x) (omega arith)
 
 pub rotated : (x n : ℕ) → x < 2 ^ 64 → n < 64 → bit_or ((x * 2 ^ (n % 64)) % 2 ^ 64) (x / 2 ^ ((64 - n % 64) % 64)) ≡ rotl x n
 rotated x zero small below = whole x small
@@ -31,10 +28,3 @@ rotated x (suc m) small below =
     let sum' : n + (64 - n) ≡ 64 = omega arith in
     let fits : x < 2 ^ (n + (64 - n)) = rw sum' small in
     rw (low, high) (rw sum at (parted x (64 - n) n fits))
-
-offsets_below : T (all_below 64 rho_offsets)
-unfolding all_below
-offsets_below = tt
-
-pub offset_below : (i : ℕ) → i < 25 → at rho_offsets i < 64
-offset_below i h = at_below 64 rho_offsets i offsets_below h

@@ -1,5 +1,6 @@
 -- Streams of bytes that are read in parts, and messages that are lent in parts. Assumes nothing.
-use Rattle.std.specs.Prelude.{ℕ, ◌+◌, List, [], ◌∷◌, ◌++◌, map}
+use Rattle.std.specs.Prelude.{ℕ, ◌+◌, List}
+use Rattle.std.specs.List.{flat_map}
 use Rattle.std.specs.Borrow.{Bor}
 
 -- a stream of which n bytes have been read
@@ -22,12 +23,6 @@ abbrev pub later_four : ℕ → Four → Four
 later_four n s =
     record { first = later n s.first; second = later n s.second; third = later n s.third; fourth = later n s.fourth }
 
--- lists one after the other
-abbrev pub concat : List (List ℕ) → List ℕ
-concat [] = []
-concat (x ∷ []) = x
-concat (x ∷ (y ∷ ys)) = x ++ concat (y ∷ ys)
-
 -- a message that is lent in parts
 abbrev pub message : List (Bor (List ℕ)) → List ℕ
-message parts = concat (map (λ x. x.now) parts)
+message parts = flat_map (λ x. x.now) parts

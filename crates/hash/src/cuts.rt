@@ -1,8 +1,9 @@
 // The bytes do not depend on how a message is cut into parts, nor on how they are read.
-ghost use Rattle.std.specs.Prelude.{◌≡◌, ◌+◌, ◌++◌, length};
+ghost use Rattle.std.specs.Prelude.{◌≡◌, ℕ, ◌+◌, List, ◌++◌, length};
+ghost use Rattle.standards.specs.Lists.{table};
 ghost use Rattle.hash.specs.Streams.{message};
 
-use crate::{Digest, Reader, Xof, absorb_all, digest_all};
+use crate::{Digest, Reader, Xof, absorb_all};
 
 // One message, cut in two ways: the bytes of the first are read in two parts, those of the second in one.
 pub fn streams_agree<X: Xof>(
@@ -14,7 +15,7 @@ pub fn streams_agree<X: Xof>(
     back: &mut [u8],
     all: &mut [u8],
 )
-    requires x_value { X.Xof.stream x ≡ X.Xof.stream y }
+    requires x_value { X.stream x ≡ X.stream y }
     requires one_value { message one.now ≡ message other.now }
     requires all_len { length all.old ≡ length front.old + length back.old }
     ensures { all.new ≡ front.new ++ back.new }
@@ -24,21 +25,21 @@ pub fn streams_agree<X: Xof>(
     let mut reader = x.finish();
     reader.squeeze(front);
     reader.squeeze(back);
-    let mut whole = y.finish();
-    whole.squeeze(all);
+    y.finish().squeeze(all);
 }
 
+// The same of N bytes: the two may go on differently after them.
 pub fn digests_agree<const N: usize, D: Digest<N>>(
-    mut x: D,
-    mut y: D,
+    mut d: D,
+    mut e: D,
     one: &[&[u8]],
     other: &[&[u8]],
 ) -> ([u8; N], [u8; N])
-    requires x_value { D.Digest.digest x ≡ D.Digest.digest y }
+    requires d_value { (m : List ℕ) → table N (D.stream d m) ≡ table N (D.stream e m) }
     requires one_value { message one.now ≡ message other.now }
     ensures { result.0 ≡ result.1 }
 {
-    digest_all(&mut x, one);
-    digest_all(&mut y, other);
-    (x.finish(), y.finish())
+    absorb_all(&mut d, one);
+    absorb_all(&mut e, other);
+    (d.finish(), e.finish())
 }

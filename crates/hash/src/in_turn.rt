@@ -12,7 +12,7 @@ pub struct InTurn<R: Reader + Drop> {
 }
 
 impl<R: Reader + Drop> FourReaders for InTurn<R> {
-    ghost rests = { λ s. record { first = R.Reader.rest s.first; second = R.Reader.rest s.second; third = R.Reader.rest s.third; fourth = R.Reader.rest s.fourth } };
+    ghost rests = { λ s. record { first = R.rest s.first; second = R.rest s.second; third = R.rest s.third; fourth = R.rest s.fourth } };
 
     fn squeeze(&mut self, a: &mut [u8], b: &mut [u8], c: &mut [u8], d: &mut [u8]) {
         self.first.squeeze(a);

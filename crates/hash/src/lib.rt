@@ -22,28 +22,26 @@ pub trait Reader {
         ensures onward { rest self.new ≡ later (length out.old) (rest self.old) };
 }
 
-// A function without end that takes its message. `stream s m` is what will be read if m is absorbed yet.
-pub trait Xof: Sized {
-    type Output: Reader + Drop;
-
+// A function that takes its message in parts. `stream s m` is what will come out if m is absorbed yet.
+pub trait Absorb {
     ghost stream: { Self → List ℕ → ℕ → ℕ };
 
     fn absorb(&mut self, part: &[u8])
         ensures { (m : List ℕ) → stream self.new m ≡ stream self.old (part.now ++ m) };
-
-    fn finish(self) -> Self::Output
-        ensures { Self.Output.Reader.rest result ≡ stream self [] };
 }
 
-// A function of N bytes that takes its message. `digest s m` is what it will give if m is absorbed yet.
-pub trait Digest<const N: usize>: Sized {
-    ghost digest: { Self → List ℕ → List ℕ };
+// One whose bytes go on without end.
+pub trait Xof: Absorb + Sized {
+    type Output: Reader + Drop;
 
-    fn absorb(&mut self, part: &[u8])
-        ensures { (m : List ℕ) → digest self.new m ≡ digest self.old (part.now ++ m) };
+    fn finish(self) -> Self::Output
+        ensures { Self.Output.rest result ≡ Self.stream self [] };
+}
 
+// One that gives the stream's first N bytes.
+pub trait Digest<const N: usize>: Absorb + Sized {
     fn finish(self) -> [u8; N]
-        ensures { result ≡ digest self [] };
+        ensures { result ≡ table N (Self.stream self []) };
 }
 
 // Four streams that are read side by side. `rests s` are those that are still to come.
@@ -83,29 +81,29 @@ pub trait Hash {
     ghost hashes: { Hashes };
 
     fn open_shake128() -> Self::Shake128
-        ensures { Self.Shake128.Xof.stream result ≡ hashes.shake128 };
+        ensures { Self.Shake128.stream result ≡ hashes.shake128 };
 
     fn open_shake256() -> Self::Shake256
-        ensures { Self.Shake256.Xof.stream result ≡ hashes.shake256 };
+        ensures { Self.Shake256.stream result ≡ hashes.shake256 };
 
     fn open_sha3_256() -> Self::Sha3_256
-        ensures { Self.Sha3_256.Digest.digest result ≡ hashes.sha3_256 };
+        ensures { (m : List ℕ) → table 32 (Self.Sha3_256.stream result m) ≡ hashes.sha3_256 m };
 
     fn open_sha3_512() -> Self::Sha3_512
-        ensures { Self.Sha3_512.Digest.digest result ≡ hashes.sha3_512 };
+        ensures { (m : List ℕ) → table 64 (Self.Sha3_512.stream result m) ≡ hashes.sha3_512 m };
 
     // Four messages of one length.
     fn four_shake128(a: &[u8], b: &[u8], c: &[u8], d: &[u8]) -> Self::FourShake128
         requires b_len { length b.now ≡ length a.now }
         requires c_len { length c.now ≡ length a.now }
         requires d_len { length d.now ≡ length a.now }
-        ensures { Self.FourShake128.FourReaders.rests result ≡ of_four hashes.shake128 a.now b.now c.now d.now };
+        ensures { Self.FourShake128.rests result ≡ of_four hashes.shake128 a.now b.now c.now d.now };
 
     fn four_shake256(a: &[u8], b: &[u8], c: &[u8], d: &[u8]) -> Self::FourShake256
         requires b_len { length b.now ≡ length a.now }
         requires c_len { length c.now ≡ length a.now }
         requires d_len { length d.now ≡ length a.now }
-        ensures { Self.FourShake256.FourReaders.rests result ≡ of_four hashes.shake256 a.now b.now c.now d.now };
+        ensures { Self.FourShake256.rests result ≡ of_four hashes.shake256 a.now b.now c.now d.now };
 
     // A message at once.
     fn sha3_256(m: &[u8]) -> [u8; 32]
@@ -127,47 +125,40 @@ pub trait Hash {
     }
 
     fn shake128(a: &[u8], b: &[u8]) -> Self::Reader128
-        ensures { Self.Reader128.Reader.rest result ≡ hashes.shake128 (a.now ++ b.now) }
+        ensures { Self.Reader128.rest result ≡ hashes.shake128 (a.now ++ b.now) }
     {
-        let mut xof = Self::open_shake128();
-        xof.absorb(a);
-        xof.absorb(b);
-        xof.finish()
+        finish_after(Self::open_shake128(), a, b)
     }
 
     fn shake256(a: &[u8], b: &[u8]) -> Self::Reader256
-        ensures { Self.Reader256.Reader.rest result ≡ hashes.shake256 (a.now ++ b.now) }
+        ensures { Self.Reader256.rest result ≡ hashes.shake256 (a.now ++ b.now) }
     {
-        let mut shake = Self::open_shake256();
-        shake.absorb(a);
-        shake.absorb(b);
-        shake.finish()
+        finish_after(Self::open_shake256(), a, b)
     }
 
     fn shake256_into(a: &[u8], b: &[u8], out: &mut [u8])
         ensures { out.new ≡ shake256_bytes hashes (a.now ++ b.now) (length out.old) }
     {
-        let mut reader = Self::shake256(a, b);
-        reader.squeeze(out);
+        Self::shake256(a, b).squeeze(out);
     }
 
     ghost fair: { Fair hashes };
 }
 
+// Absorbs two more parts, and ends the message.
+fn finish_after<X: Xof>(mut x: X, a: &[u8], b: &[u8]) -> X::Output
+    ensures { X.Output.rest result ≡ X.stream x (a.now ++ b.now) }
+{
+    x.absorb(a);
+    x.absorb(b);
+    x.finish()
+}
+
 // Absorbs the parts one after the other.
-pub fn absorb_all<X: Xof>(x: &mut X, parts: &[&[u8]])
-    ensures { (m : List ℕ) → X.Xof.stream x.new m ≡ X.Xof.stream x.old (message parts.now ++ m) }
+pub fn absorb_all<A: Absorb>(x: &mut A, parts: &[&[u8]])
+    ensures { (m : List ℕ) → A.stream x.new m ≡ A.stream x.old (message parts.now ++ m) }
 {
     for part in parts {
         x.absorb(part);
-    }
-}
-
-// The same for a function of fixed length.
-pub fn digest_all<const N: usize, D: Digest<N>>(d: &mut D, parts: &[&[u8]])
-    ensures { (m : List ℕ) → D.Digest.digest d.new m ≡ D.Digest.digest d.old (message parts.now ++ m) }
-{
-    for part in parts {
-        d.absorb(part);
     }
 }

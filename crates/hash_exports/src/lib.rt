@@ -27,6 +27,5 @@ pub extern "C" fn hash_sha3_256(m: &[u8], out: &mut [u8; 32])
 pub extern "C" fn hash_shake128(m: &[u8], out: &mut [u8])
     ensures { out.new ≡ table (length out.old) (fips202.shake128 m.now) }
 {
-    let mut reader = Fips202::shake128(m, &[]);
-    reader.squeeze(out);
+    Fips202::shake128(m, &[]).squeeze(out);
 }

@@ -42,6 +42,7 @@ const ROUND_CONSTANTS: [u64; 24] = [
 ];
 
 // A lane turned left by n bits.
+#[tactic(auto, using(fips202_laws::proofs::Rotations::rotated))]
 fn turned(x: u64, n: u32) -> u64
     requires { n < 64 }
     ensures { result ≡ rotl x n }
@@ -56,6 +57,7 @@ fn column(a: u64, b: u64, c: u64, d: u64, e: u64) -> u64
     a ^ (b ^ (c ^ (d ^ e)))
 }
 
+#[tactic(auto, unfolding(standards::specs::Lists::from))]
 fn theta_step(a: &[u64; 25]) -> [u64; 25]
     ensures { result ≡ theta a.now }
 {
@@ -134,6 +136,7 @@ fn rho_lane(x: u64, i: usize) -> u64
 }
 
 // Rho, and then pi, which only moves lanes.
+#[tactic(auto, unfolding(standards::specs::Lists::from))]
 fn rho_pi_step(a: &[u64; 25]) -> [u64; 25]
     ensures { result ≡ pi (rho a.now) }
 {
@@ -200,6 +203,7 @@ fn chosen(x: u64, y: u64, z: u64) -> u64
     x ^ (!y & z)
 }
 
+#[tactic(auto, unfolding(standards::specs::Lists::from))]
 fn chi_step(a: &[u64; 25]) -> [u64; 25]
     ensures { result ≡ chi a.now }
 {
@@ -259,6 +263,7 @@ fn chi_step(a: &[u64; 25]) -> [u64; 25]
     ]
 }
 
+#[tactic(auto, using(fips202_laws::proofs::Constants::constants_are, fips202_laws::proofs::Rounds::rounds_more, fips202_laws::proofs::Rounds::rounds_all))]
 pub fn permute(a: &mut [u64; 25])
     ensures { a.new ≡ keccak_f a.old }
 {

@@ -15,28 +15,22 @@ use files::texts::MOST_TEXT;
 use fips202::functions::Fips202;
 use std::alloc::{AllocError, Global};
 use std::fs::File;
-use std::io::{Read, Write};
+use std::io::{ErrorKind, Read, Write};
 use std::{env, io};
 
 const USAGE: &str = "usage: kem keys SET D Z | kem encaps SET PK M | kem decaps SET SK TEXT\n";
 
-// The text of a file, up to a block more than is taken; nothing, if it can't be read.
-fn text(rt: &HostRuntime, path: &str) -> Result<Option<Vec<u8>>, AllocError> {
-    let mut text = Vec::new(rt.alloc());
-    let Ok(mut file) = File::open(rt, path) else {
+// The text of a file, up to a character more than is taken; nothing, if it can't be read.
+fn text(rt: &HostRuntime, path: &str) -> io::Result<Option<Vec<u8>>> {
+    let Ok(file) = File::open(rt, path) else {
         return Ok(None);
     };
-    for _ in 0..=MOST_TEXT {
-        let mut block = [0u8; 4096];
-        let Ok(n) = file.read(&mut block) else {
-            return Ok(None);
-        };
-        text.extend_from_slice(&block[0..n])?;
-        if n == 0 || text.len() > MOST_TEXT {
-            break;
-        }
+    let mut text = Vec::new(rt.alloc());
+    match file.take(MOST_TEXT as u64 + 1).read_to_end(&mut text) {
+        Ok(_) => Ok(Some(text)),
+        Err(e) if e.kind() == ErrorKind::OutOfMemory => Err(e),
+        Err(_) => Ok(None),
     }
-    Ok(Some(text))
 }
 
 // What a call answers, or how to call.
@@ -61,12 +55,9 @@ fn answer(
 
 fn main(rt: HostRuntime) -> io::Result<()> {
     let heap = rt.alloc();
-    let mut words = Vec::new(heap);
-    for word in env::args(&rt)? {
-        words.push(word)?;
-    }
+    let words: Vec<String> = env::args(&rt)?.collect(heap)?;
     let [_, call, set, first, second] = words.as_slice() else {
-        return rt.stdout().write_all(USAGE.as_bytes());
+        return rt.print(USAGE);
     };
     let one = text(&rt, first.as_str())?;
     let other = text(&rt, second.as_str())?;

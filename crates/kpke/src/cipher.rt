@@ -5,15 +5,16 @@ ghost use Rattle.standards.specs.Bytes.{pack};
 ghost use Rattle.standards.specs.MlKemParts.{ntt as kem_ntt};
 ghost use Rattle.standards.specs.MlKem.{ek_rho, u_in, encrypt as encrypted, decrypt as decrypted};
 ghost use Rattle.algebra.specs.RowArrays.{RowsBelow, RowsAre};
-ghost use Rattle.sets.specs.Sets.{kem_numbers, KemFits};
+ghost use Rattle.sets.specs.Sets.{kem_numbers};
 ghost use Rattle.kpke.specs.Matrix.{entry_at, u_row, v_row};
 
 use crate::rows::{decode_rows, dot, encode_rows, small_poly, small_rows};
 use hash::Hash;
 use mlkem_parts::encoding::mu;
 use mlkem_parts::rounding::{compress, decompress};
-use packing::{pack_u16, unpack_u16};
-use ring::kem::{add, ntt, ntt_inverse, sub};
+use packing::{pack, unpack};
+use ring::pointwise::{add, sub};
+use ring::transform::{ntt, ntt_inverse};
 use sets::types::KemSet;
 
 // The rows of u: column i of the matrix times y, and noise, compressed.
@@ -24,7 +25,6 @@ fn u_rows<H: Hash>(
     y: &[[u16; 256]; 4],
     u: &mut [[u16; 256]; 4],
 )
-    requires fits { KemFits p }
     requires left { RowsBelow 3329 (p.k * p.k) a.now }
     requires right { RowsBelow 3329 p.k y.now }
     ensures { RowsAre p.k (u_row H.Hash.hashes p.k p.eta2 p.du r.now a.now y.now) u.new }
@@ -50,7 +50,6 @@ fn v_poly<H: Hash>(
     m: &[u8; 32],
     f: &mut [u16; 256],
 )
-    requires fits { KemFits p }
     requires left { RowsBelow 3329 p.k t.now }
     requires right { RowsBelow 3329 p.k y.now }
     ensures { f.new ≡ v_row H.Hash.hashes p.k p.eta2 p.dv r.now t.now y.now m.now }
@@ -67,13 +66,12 @@ fn v_poly<H: Hash>(
 }
 
 fn write_text(p: KemSet, u: &[[u16; 256]; 4], v: &[u16; 256], text: &mut [u8])
-    requires fits { KemFits p }
     requires long { length text.old ≡ 32 * p.du * p.k + 32 * p.dv }
     ensures { text.new ≡ joined (tables p.k (λ i. pack p.du (row_at u.now i))) ++ pack p.dv v.now }
 {
     let n = 32 * p.du * p.k;
     encode_rows(p.du, u, p.k, &mut text[0..n]);
-    pack_u16(p.dv, v, &mut text[n..n + 32 * p.dv]);
+    pack(p.dv, v, &mut text[n..n + 32 * p.dv]);
 }
 
 // The ciphertext of m with coins r, with the matrix of the key drawn already.
@@ -85,7 +83,6 @@ pub fn encrypt<H: Hash>(
     r: &[u8],
     text: &mut [u8],
 )
-    requires fits { KemFits p }
     requires entries { RowsAre (p.k * p.k) (entry_at H.Hash.hashes p.k (ek_rho (kem_numbers p) ek.now)) a.now }
     requires below { RowsBelow 3329 (p.k * p.k) a.now }
     requires key { 384 * p.k ≤ length ek.now }
@@ -105,7 +102,6 @@ pub fn encrypt<H: Hash>(
 
 // A ciphertext's rows of u, transformed.
 fn text_rows(p: KemSet, c: &[u8], v: &mut [[u16; 256]; 4])
-    requires fits { KemFits p }
     requires long { 32 * p.du * p.k ≤ length c.now }
     ensures value { RowsAre p.k (λ j. kem_ntt (u_in (kem_numbers p) c.now j)) v.new }
     ensures below { RowsBelow 3329 p.k v.new }
@@ -113,7 +109,7 @@ fn text_rows(p: KemSet, c: &[u8], v: &mut [[u16; 256]; 4])
     let w = 32 * p.du;
     for i in 0..p.k {
         let mut f = [0u16; 256];
-        unpack_u16(p.du, &c[w * i..w * i + w], &mut f);
+        unpack(p.du, &c[w * i..w * i + w], &mut f);
         decompress(p.du, &mut f);
         ntt(&mut f);
         v[i] = f;
@@ -122,7 +118,6 @@ fn text_rows(p: KemSet, c: &[u8], v: &mut [[u16; 256]; 4])
 
 // The message of a ciphertext.
 pub fn decrypt(p: KemSet, dk: &[u8], c: &[u8], m: &mut [u8; 32])
-    requires fits { KemFits p }
     requires key { 384 * p.k ≤ length dk.now }
     requires long { length c.now ≡ 32 * p.du * p.k + 32 * p.dv }
     ensures { m.new ≡ decrypted (kem_numbers p) dk.now c.now }
@@ -136,9 +131,9 @@ pub fn decrypt(p: KemSet, dk: &[u8], c: &[u8], m: &mut [u8; 32])
     ntt_inverse(&mut f);
     let mut v = [0u16; 256];
     let n = 32 * p.du * p.k;
-    unpack_u16(p.dv, &c[n..n + 32 * p.dv], &mut v);
+    unpack(p.dv, &c[n..n + 32 * p.dv], &mut v);
     decompress(p.dv, &mut v);
     sub(&mut v, &f);
     compress(1, &mut v);
-    pack_u16(1, &v, m);
+    pack(1, &v, m);
 }

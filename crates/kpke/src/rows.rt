@@ -1,5 +1,5 @@
 // Vectors and matrices as plain rows: drawing, products, encodings.
-ghost use Rattle.std.specs.Prelude.{◌≡◌, ℕ, ◌+◌, ◌*◌, ◌^◌, ◌<◌, ◌≤◌, T, length};
+ghost use Rattle.std.specs.Prelude.{◌≡◌, ℕ, ◌+◌, ◌*◌, ◌^◌, ◌<◌, ◌≤◌, T, length, OnOk, if◌then◌else◌};
 ghost use Rattle.standards.specs.Lists.{row_at, tables, joined, all_below};
 ghost use Rattle.standards.specs.Bytes.{pack};
 ghost use Rattle.standards.specs.Ring.{sum_p};
@@ -7,16 +7,17 @@ ghost use Rattle.standards.specs.MlKemParts.{ntt as kem_ntt, multiply_ntts};
 ghost use Rattle.standards.specs.MlKem.{small, key_row, matrix_drawn};
 ghost use Rattle.algebra.specs.RowArrays.{RowsBelow, RowsAre};
 ghost use Rattle.packing.specs.Widths.{kem_width};
-ghost use Rattle.sets.specs.Sets.{kem_numbers, KemFits};
+ghost use Rattle.sets.specs.Sets.{kem_numbers, verdict_of};
 ghost use Rattle.kpke.specs.Matrix.{entry_at};
 
 use hash::Hash;
 use mlkem_parts::encoding::byte_decode_12;
 use mlkem_parts::noise::sample_poly_cbd;
 use mlkem_parts::uniform::sample_ntt;
-use packing::pack_u16;
-use ring::kem::{multiply_add, ntt};
-use sets::types::KemSet;
+use packing::pack;
+use ring::kem::multiply_add;
+use ring::transform::ntt;
+use sets::types::{KemSet, Refusal};
 
 // Small polynomial number n of a seed: PRF and SamplePolyCBD.
 pub fn small_poly<H: Hash>(eta: usize, s: &[u8], n: u8, f: &mut [u16; 256])
@@ -72,7 +73,7 @@ pub fn encode_rows(d: usize, v: &[[u16; 256]; 4], k: usize, out: &mut [u8])
 {
     let w = 32 * d;
     for i in 0..k {
-        pack_u16(d, &v[i], &mut out[w * i..w * i + w]);
+        pack(d, &v[i], &mut out[w * i..w * i + w]);
     }
 }
 
@@ -89,18 +90,15 @@ pub fn decode_rows(key: &[u8], k: usize, v: &mut [[u16; 256]; 4])
     }
 }
 
-// The matrix of rho, row by row with stride k: whether every draw was full.
-pub fn expand<H: Hash>(p: KemSet, rho: &[u8], a: &mut [[u16; 256]; 16]) -> bool
-    requires { KemFits p }
-    ensures drawn { result ≡ matrix_drawn H.Hash.hashes (kem_numbers p) rho.now }
-    ensures value { T result → RowsAre (p.k * p.k) (entry_at H.Hash.hashes p.k rho.now) a.new }
-    ensures below { T result → RowsBelow 3329 (p.k * p.k) a.new }
+// The matrix of rho, row by row with stride k, if every draw is full. If not, nothing is said of a.
+pub fn expand<H: Hash>(p: KemSet, rho: &[u8], a: &mut [[u16; 256]; 16]) -> Result<(), Refusal>
+    ensures drawn { verdict_of result ≡ (if matrix_drawn H.Hash.hashes (kem_numbers p) rho.now then 0 else 4) }
+    ensures value { OnOk result (RowsAre (p.k * p.k) (entry_at H.Hash.hashes p.k rho.now) a.new) }
+    ensures below { OnOk result (RowsBelow 3329 (p.k * p.k) a.new) }
 {
-    let mut full = true;
     for n in 0..p.k * p.k {
-        let mut f = [0u16; 256];
-        full &= sample_ntt::<H>(rho, &[(n % p.k) as u8, (n / p.k) as u8], &mut f);
-        a[n] = f;
+        let entry = [(n % p.k) as u8, (n / p.k) as u8];
+        a[n] = sample_ntt::<H>(rho, &entry).ok_or(Refusal::Draw)?;
     }
-    full
+    Ok(())
 }

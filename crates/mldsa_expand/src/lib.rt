@@ -1,12 +1,12 @@
 // ExpandA, ExpandS and ExpandMask: matrices and vectors out of a seed, row by row.
-#![tactic(auto)]
+#![tactic(auto, using(mldsa_laws::proofs::RowLoops::rows_are))]
 
 ghost use Rattle.std.specs.Prelude.{◌≡◌, ◌+◌, ◌*◌, ◌/◌, ◌%◌, ◌<◌, ◌≤◌, T, ◌⊎◌, length};
 ghost use Rattle.standards.specs.Lists.{tables, all_full};
 ghost use Rattle.standards.specs.MlDsaParts.{expand_a, expand_s, expand_mask};
 ghost use Rattle.algebra.specs.RowArrays.{RowsBelow, RowsAre};
 ghost use Rattle.mldsa_laws.specs.Steps.{padded, entry_at};
-ghost use Rattle.sets.specs.Sets.{dsa_numbers, DsaFits};
+ghost use Rattle.sets.specs.Sets.{dsa_numbers};
 
 use hash::Hash;
 use mldsa_sampling::bounded::rej_bounded_poly;
@@ -16,7 +16,6 @@ use sets::types::DsaSet;
 
 // ExpandA: the matrix of rho, row after row: whether every draw was full. The empty places of one that fell short are noughts.
 pub fn expand_a<H: Hash>(p: DsaSet, rho: &[u8], a: &mut [[u32; 256]]) -> bool
-    requires fits { DsaFits p }
     requires long { length a.old ≡ p.k * p.l }
     ensures drawn { result ≡ all_full (tables (p.k * p.l) (λ n. expand_a H.Hash.hashes rho.now (n / p.l) (n % p.l))) }
     ensures value { RowsAre (p.k * p.l) (entry_at H.Hash.hashes p.l rho.now) a.new }
@@ -50,7 +49,6 @@ pub fn expand_s<H: Hash>(eta: usize, rho: &[u8], first: usize, s: &mut [[u32; 25
 
 // ExpandMask: the masks number `kappa` and on.
 pub fn expand_masks<H: Hash>(p: DsaSet, rho: &[u8], kappa: u16, y: &mut [[u32; 256]])
-    requires fits { DsaFits p }
     requires few { kappa + length y.old < 65536 }
     ensures value { y.new ≡ tables (length y.old) (λ i. expand_mask H.Hash.hashes (dsa_numbers p) rho.now (kappa + i)) }
     ensures below { RowsBelow 8380417 (length y.old) y.new }

@@ -1,7 +1,9 @@
 -- Places read and marked, row by row.
-use Rattle.std.proofs.Common.{◌≡◌, ℕ, zero, suc, ◌+◌, ◌-◌, ◌<◌, ◌≤◌, Bool, true, false, ◌&&◌, ltb, leb, List, [], ◌∷◌, ◌++◌, length, get_or, take, drop, set, sym, refl, ap, ◌∙◌, subst, ap₂, inl, inr, add-one, arith}
-use Rattle.std.proofs.lemmas.List.{drop_more, take_more_set, at_drop_more, at_drop_all}
-use Rattle.std.proofs.lemmas.Bool.{leb-true, and_parts, le-leb, lt-leb, lt-ltb, le-ltb, and_from, and_left, and_right, cases_eq}
+use Rattle.std.proofs.Common.{◌≡◌, ℕ, zero, suc, ◌+◌, ◌<◌, ◌≤◌, Bool, true, false, ◌&&◌, ltb, eqb, List, [], ◌∷◌, ◌++◌, length, get_or, take, drop, set, sym, refl, ap, ◌∙◌, subst, ap₂, inl, inr, add-one, arith}
+use Rattle.std.proofs.lemmas.List.{take_more_set, at_drop_more, at_drop_all}
+use Rattle.std.specs.List.{AllAdjacentBelow, IsAllAdjacentAnswer, list_all}
+use Rattle.std.proofs.lemmas.Bool.{leb-true, and_parts, and_from, and_left, and_right, cases_eq}
+use Rattle.std.proofs.lemmas.Bool.Decides.{nat_tests}
 use Rattle.standards.specs.Lists.{rows, tables, at, all_below}
 use Rattle.standards.specs.Ring.{zero_p}
 use Rattle.standards.specs.MlDsaParts.{DsaSet}
@@ -13,86 +15,52 @@ true_and : (b : Bool) → true && b ≡ b
 true_and true = refl
 true_and false = refl
 
--- ---- one row. What is left from j to e: one, and the rest
-between_next : (bs : List ℕ) (j e : ℕ) → j < e → e ≤ length bs → between j e bs ≡ get_or bs j 0 ∷ between (j + 1) e bs
-between_next bs j e h l = ap₂ take {x = e - j} {y = suc (e - (j + 1))} (omega arith) (drop_more bs j 0 (omega arith))
+-- ---- one row
+pair_behind : (b : Bool) (x : ℕ) (xs : List ℕ) (k d : ℕ) → b ≡ ltb (get_or (x ∷ xs) (suc k) d) (get_or (x ∷ xs) (suc k + 1) d) → b ≡ ltb (get_or xs k d) (get_or xs (k + 1) d)
+pair_behind b x xs k d h = h ∙ ap (λ n. ltb (get_or xs k d) (get_or (x ∷ xs) n d)) {x = suc k + 1} {y = suc (k + 1)} (omega arith)
 
-between_none : (bs : List ℕ) (j e : ℕ) → e ≤ j → between j e bs ≡ []
-between_none bs j e h = ap (λ k. take k (drop j bs)) {x = e - j} {y = 0} (omega arith)
-
--- rising, from a least number on
-unfoldable pub rises_from : ℕ → List ℕ → Bool
-rises_from least [] = true
-rises_from least (x ∷ xs) = leb least x && rises_from (x + 1) xs
-
-rises_none : (least : ℕ) → rises_from least [] ≡ true
-unfolding rises_from
-rises_none least = refl
-
-rises_more : (least x : ℕ) (xs : List ℕ) → rises_from least (x ∷ xs) ≡ leb least x && rises_from (x + 1) xs
-unfolding rises_from
-rises_more least x xs = refl
-
-rising-after : (x : ℕ) (xs : List ℕ) → rising (x ∷ xs) ≡ rises_from (x + 1) xs
-unfolding rising rises_from
-rising-after x [] = refl
-rising-after x (y ∷ ys) = ap₂ (λ a b. a && b) (ap (λ n. leb n y) (sym (add-one x))) (rising-after y ys)
-
-pub rising-from : (xs : List ℕ) → rises_from 0 xs ≡ rising xs
+-- it rises if each place is below the next one
+rising-pairs : (xs : List ℕ) → AllAdjacentBelow (λ x y. true ≡ ltb x y) xs (length xs) → true ≡ rising xs
 unfolding rising
-rising-from [] = rises_none 0
-rising-from (x ∷ xs) = rises_more 0 x xs ∙ (ap (λ t. t && rises_from (x + 1) xs) (le-leb 0 x (omega arith)) ∙ (true_and (rises_from (x + 1) xs) ∙ sym (rising-after x xs)))
+rising-pairs [] h = refl
+rising-pairs (x ∷ []) h = refl
+rising-pairs (x ∷ y ∷ ys) h =
+    sym (and_from _ _ (sym (h 0 0 (omega arith))) (sym (rising-pairs (y ∷ ys) (λ k d l. pair_behind true x (y ∷ ys) k d (h (suc k) d (omega arith))))))
 
-pub rises_next : (bs : List ℕ) (j e least : ℕ) (all : Bool) → j < e → e ≤ length bs → least ≤ get_or bs j 0 → rises_from least (between j e bs) ≡ all → rises_from (get_or bs j 0 + 1) (between (j + 1) e bs) ≡ all
-rises_next bs j e least all h l ok is =
-    let x = get_or bs j 0 in
-    let rest = between (j + 1) e bs in
-    sym (true_and (rises_from (x + 1) rest)) ∙ (ap (λ t. t && rises_from (x + 1) rest) (sym (le-leb least x ok)) ∙ (sym (rises_more least x rest) ∙ (ap (rises_from least) (sym (between_next bs j e h l)) ∙ is)))
+-- and does not where one is not
+falling_pair : (xs : List ℕ) (k : ℕ) → k + 1 < length xs → ((d : ℕ) → false ≡ ltb (get_or xs k d) (get_or xs (k + 1) d)) → false ≡ rising xs
+unfolding rising
+falling_pair [] k l h = absurd (omega arith)
+falling_pair (x ∷ []) k l h = absurd (omega arith)
+falling_pair (x ∷ y ∷ ys) zero l h = sym (and_left _ _ (sym (h 0)))
+falling_pair (x ∷ y ∷ ys) (suc k) l h = sym (and_right _ _ (sym (falling_pair (y ∷ ys) k (omega arith) (λ d. pair_behind false x (y ∷ ys) k d (h d)))))
 
-pub rises_stop : (bs : List ℕ) (j e least : ℕ) (all : Bool) → j < e → e ≤ length bs → get_or bs j 0 < least → rises_from least (between j e bs) ≡ all → all ≡ false
-rises_stop bs j e least all h l low is =
-    let x = get_or bs j 0 in
-    let rest = between (j + 1) e bs in
-    sym is ∙ (ap (rises_from least) (between_next bs j e h l) ∙ (rises_more least x rest ∙ and_left (leb least x) (rises_from (x + 1) rest) (lt-leb least x low)))
-
-pub rises_last : (bs : List ℕ) (j e least : ℕ) (all : Bool) → e ≤ j → rises_from least (between j e bs) ≡ all → all ≡ true
-rises_last bs j e least all h is = sym is ∙ (ap (rises_from least) (between_none bs j e h) ∙ rises_none least)
-
-marked_none : (c : List ℕ) → marked [] c ≡ c
-unfolding marked
-marked_none c = refl
+-- what `is_sorted_by` answers
+pub rising-sorted : (xs : List ℕ) (r : Bool) → IsAllAdjacentAnswer (λ x y b. b ≡ ltb x y) xs r → r ≡ rising xs
+rising-sorted xs true h = rising-pairs xs h
+rising-sorted xs false h = falling_pair xs h.0 h.1 h.2
 
 marked_more : (x : ℕ) (xs c : List ℕ) → marked (x ∷ xs) c ≡ marked xs (set c x 1)
 unfolding marked
 marked_more x xs c = refl
 
-pub marks_next : (bs c all : List ℕ) (j e : ℕ) → j < e → e ≤ length bs → marked (between j e bs) c ≡ all → marked (between (j + 1) e bs) (set c (get_or bs j 0) 1) ≡ all
-marks_next bs c all j e h l is = sym (marked_more (get_or bs j 0) (between (j + 1) e bs) c) ∙ (ap (λ xs. marked xs c) (sym (between_next bs j e h l)) ∙ is)
+marked_none : (c : List ℕ) → marked [] c ≡ c
+unfolding marked
+marked_none c = refl
 
-pub marks_last : (bs c all : List ℕ) (j e : ℕ) → e ≤ j → marked (between j e bs) c ≡ all → c ≡ all
-marks_last bs c all j e h is = sym (marked_none c) ∙ (ap (λ xs. marked xs c) (sym (between_none bs j e h)) ∙ is)
+-- the places from i on are left to mark, of which x is the first; all is what is there in the end
+pub marks_next : (xs c all : List ℕ) (i x : ℕ) → i < length xs → x ≡ get_or xs i 0 → marked (drop i xs) c ≡ all → marked (drop (i + 1) xs) (set c x 1) ≡ all
+marks_next xs c all i x h e is =
+    sym (at_drop_more (λ ys. marked ys c) xs i 0 h ∙ (marked_more (get_or xs i 0) (drop (i + 1) xs) c ∙ ap (λ n. marked (drop (i + 1) xs) (set c n 1)) (sym e))) ∙ is
+
+pub marks_last : (xs c all : List ℕ) (i : ℕ) → length xs ≤ i → marked (drop i xs) c ≡ all → c ≡ all
+marks_last xs c all i h is = sym (at_drop_all (λ ys. marked ys c) xs i h ∙ marked_none c) ∙ is
 
 -- ---- noughts
-below_none : all_below 1 [] ≡ true
+pub noughts_are : (xs : List ℕ) → list_all (λ x. eqb x 0) xs ≡ all_below 1 xs
 unfolding all_below
-below_none = refl
-
-below_more : (x : ℕ) (xs : List ℕ) → all_below 1 (x ∷ xs) ≡ ltb x 1 && all_below 1 xs
-unfolding all_below
-below_more x xs = refl
-
-zeros_at : (bs : List ℕ) (i : ℕ) (all : Bool) → i < length bs → all_below 1 (drop i bs) ≡ all → ltb (get_or bs i 0) 1 && all_below 1 (drop (i + 1) bs) ≡ all
-zeros_at bs i all h is = sym (below_more (get_or bs i 0) (drop (i + 1) bs)) ∙ (sym (at_drop_more (all_below 1) bs i 0 h) ∙ is)
-
-pub zeros_next : (bs : List ℕ) (i : ℕ) (all : Bool) → i < length bs → get_or bs i 0 ≡ 0 → all_below 1 (drop i bs) ≡ all → all_below 1 (drop (i + 1) bs) ≡ all
-zeros_next bs i all h z is =
-    sym (true_and (all_below 1 (drop (i + 1) bs))) ∙ (ap (λ t. t && all_below 1 (drop (i + 1) bs)) (sym (lt-ltb (get_or bs i 0) 1 (omega arith))) ∙ zeros_at bs i all h is)
-
-pub zeros_stop : (bs : List ℕ) (i : ℕ) (all : Bool) → i < length bs → (get_or bs i 0 ≡ 0 → ⊥) → all_below 1 (drop i bs) ≡ all → false ≡ all
-zeros_stop bs i all h z is = sym (and_left (ltb (get_or bs i 0) 1) (all_below 1 (drop (i + 1) bs)) (le-ltb (get_or bs i 0) 1 (omega (arith, z)))) ∙ zeros_at bs i all h is
-
-pub zeros_last : (bs : List ℕ) (i : ℕ) (all : Bool) → length bs ≤ i → all_below 1 (drop i bs) ≡ all → true ≡ all
-zeros_last bs i all h is = sym below_none ∙ (sym (at_drop_all (all_below 1) bs i h) ∙ is)
+noughts_are [] = refl
+noughts_are (x ∷ xs) = ap₂ ◌&&◌ (grind (arith, nat_tests)) (noughts_are xs)
 
 -- ---- all rows
 more_rows : (f : ℕ → List ℕ) (i n : ℕ) → rows f i (suc n) ≡ rows f i n ++ (f (i + n) ∷ [])

@@ -1,15 +1,21 @@
 -- Places counted and written, row by row.
-use Rattle.std.proofs.Common.{◌≡◌, ℕ, zero, suc, ◌+◌, ◌-◌, ◌<◌, ◌≤◌, Bool, true, false, cond, not, eqb, List, [], ◌∷◌, ◌++◌, length, get_or, take, drop, set, replicate, sym, refl, ap, ◌∙◌, ap₂, arith}
+use Rattle.std.proofs.Common.{◌≡◌, ℕ, zero, suc, ◌+◌, ◌-◌, ◌<◌, ◌≤◌, Bool, true, false, cond, not, eqb, ◌≢◌, List, [], ◌∷◌, ◌++◌, length, get_or, take, drop, set, replicate, sym, refl, ap, ◌∙◌, ap₂, arith}
 use mir.Val.{bool_byte}
 use Rattle.std.proofs.lemmas.List.{append-nil, append_assoc, length-append, length-take-le, length-drop, drop-drop, drop-set-add, take-set-le, take_more_set, take_all, at_drop_more, at_drop_all}
-use Rattle.std.proofs.lemmas.Bool.{cond_both, cond-true, cond-false}
+use Rattle.std.proofs.lemmas.Bool.{cond_both, cond-true, cond-false, ne_eqb, eq-eqb}
 use Rattle.standards.specs.Lists.{from, table}
 use Rattle.standards.specs.MlDsaParts.{places, all_places, row_ends}
 
 -- ---- one place
-pub place_is : (i b : ℕ) → places i (b ∷ []) ≡ cond (eqb b 0) [] (i ∷ [])
+place_is : (i b : ℕ) → places i (b ∷ []) ≡ cond (eqb b 0) [] (i ∷ [])
 unfolding places
 place_is i b = refl
+
+pub one_place : (i b : ℕ) → b ≢ 0 → places i (b ∷ []) ≡ i ∷ []
+one_place i b h = place_is i b ∙ cond-false (eqb b 0) [] (i ∷ []) (ne_eqb b 0 h)
+
+pub no_place : (i b : ℕ) → b ≡ 0 → places i (b ∷ []) ≡ []
+no_place i b h = place_is i b ∙ cond-true (eqb b 0) [] (i ∷ []) (eq-eqb b 0 h)
 
 places_none : (i : ℕ) → places i [] ≡ []
 unfolding places

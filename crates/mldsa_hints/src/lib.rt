@@ -1,17 +1,22 @@
 // The hints of a signature, which are rows of noughts and ones: how many ones there are, HintBitPack and HintBitUnpack.
 //
-// Hints are counted before a signature is kept, so counting has no branch on one. What is packed or unpacked is public.
+// Hints are counted before a signature is kept, so counting has no branch on one, and its loops go by index.
+// What is packed or unpacked is public.
 #![tactic(auto)]
 
-ghost use Rattle.std.specs.Prelude.{◌≡◌, ◌+◌, ◌≤◌, ◌&&◌, T, [], ◌∷◌, ◌++◌, length, take, drop};
+ghost use Rattle.std.specs.Prelude.{◌≡◌, ◌+◌, ◌≤◌, ◌&&◌, [], ◌∷◌, ◌++◌, length, take, drop, is_ok, OnOk};
 ghost use Rattle.standards.specs.Lists.{tables, all_below};
 ghost use Rattle.standards.specs.Ring.{zero_p};
 ghost use Rattle.standards.specs.MlDsaParts.{places, hint_count, hint_bit_pack};
-ghost use Rattle.standards.specs.MlDsa.{sig_length, marked, hints_rise, hint_padding_zero, hint_row};
-ghost use Rattle.sets.specs.Sets.{dsa_numbers, DsaFits};
+ghost use Rattle.standards.specs.MlDsa.{sig_length, rising, marked, hints_rise, hint_padding_zero, hint_row};
+ghost use Rattle.sets.specs.Sets.{dsa_numbers};
 ghost use Rattle.mldsa_hints.specs.Rows.{between, row_rises};
 
 use sets::types::DsaSet;
+
+// The hint part of a signature is none that HintBitPack writes.
+#[derive(Clone, Copy, PartialEq, Eq, Debug)]
+pub struct Malformed;
 
 fn row_count(row: &[u8; 256]) -> usize
     ensures count { result ≡ length (places 0 row.now) }
@@ -37,6 +42,7 @@ pub fn hint_count(hs: &[[u8; 256]]) -> usize
 }
 
 // Writes the place i at n if there is a one: where the next place goes.
+#[tactic(auto, using(crate::proofs::PlacesOut::one_place, crate::proofs::PlacesOut::no_place))]
 fn put_place(out: &mut [u8], n: usize, i: u8, b: u8) -> usize
     requires { n + length (places i (b ∷ [])) ≤ length out.old }
     ensures count { result ≡ n + length (places i (b ∷ [])) }
@@ -60,15 +66,14 @@ fn pack_row(row: &[u8; 256], out: &mut [u8], n: usize) -> usize
     ensures back { drop result out.new ≡ drop result out.old }
 {
     let mut m = n;
-    for i in 0..256 {
-        m = put_place(out, m, i as u8, row[i]);
+    for (i, b) in row.iter().enumerate() {
+        m = put_place(out, m, i as u8, *b);
     }
     m
 }
 
 // HintBitPack: the places of all rows, noughts up to omega, and where each row ends.
 pub fn hint_bit_pack(p: DsaSet, hs: &[[u8; 256]], out: &mut [u8])
-    requires fits { DsaFits p }
     requires rows { length hs.now ≡ p.k }
     requires long { length out.old ≡ p.omega + p.k }
     requires few { hint_count hs.now ≤ p.omega }
@@ -76,8 +81,8 @@ pub fn hint_bit_pack(p: DsaSet, hs: &[[u8; 256]], out: &mut [u8])
 {
     let omega = p.omega;
     let mut n = 0;
-    for i in 0..hs.len() {
-        n = pack_row(&hs[i], out, n);
+    for (i, row) in hs.iter().enumerate() {
+        n = pack_row(row, out, n);
         out[omega + i] = n as u8;
     }
     out[n..omega].fill(0);
@@ -86,53 +91,54 @@ pub fn hint_bit_pack(p: DsaSet, hs: &[[u8; 256]], out: &mut [u8])
 fn all_zero(bs: &[u8]) -> bool
     ensures { result ≡ all_below 1 bs.now }
 {
-    for i in 0..bs.len() {
-        if bs[i] != 0 {
-            return false;
-        }
-    }
-    true
+    bs.iter().all(|b| *b == 0)
 }
 
-// Marks the places from begin to end in a row: whether they rise, and lie before omega.
-fn unpack_row(omega: usize, part: &[u8], begin: usize, end: usize, row: &mut [u8; 256]) -> bool
-    requires { omega ≤ length part.now }
-    ensures good { result ≡ row_rises omega part.now begin end }
-    ensures row { T result → row.new ≡ marked (between begin end part.now) zero_p }
+fn rises(places: &[u8]) -> bool
+    ensures { result ≡ rising places.now }
 {
-    if begin > end || end > omega {
-        return false;
+    places.is_sorted_by(|a, b| a < b)
+}
+
+// Marks the places from begin to end in a row, if they rise and lie before omega.
+fn unpack_row(
+    omega: usize,
+    part: &[u8],
+    begin: usize,
+    end: usize,
+    row: &mut [u8; 256],
+) -> Result<(), Malformed>
+    requires { omega ≤ length part.now }
+    ensures good { is_ok result ≡ row_rises omega part.now begin end }
+    ensures row { OnOk result (row.new ≡ marked (between begin end part.now) zero_p) }
+{
+    if begin > end || end > omega || !rises(&part[begin..end]) {
+        return Err(Malformed);
     }
     *row = [0u8; 256];
-    let mut least = 0;
-    for j in begin..end {
-        let x = part[j] as usize;
-        if x < least {
-            return false;
-        }
-        row[x] = 1;
-        least = x + 1;
+    for x in &part[begin..end] {
+        row[*x as usize] = 1;
     }
-    true
+    Ok(())
 }
 
-// HintBitUnpack, of a whole signature: whether the hint part is as it has to be. If not, nothing is said of the rows.
-pub fn hint_bit_unpack(p: DsaSet, sig: &[u8], hs: &mut [[u8; 256]]) -> bool
-    requires fits { DsaFits p }
+// HintBitUnpack, of a whole signature, if the hint part is as it has to be. If not, nothing is said of the rows.
+pub fn hint_bit_unpack(p: DsaSet, sig: &[u8], hs: &mut [[u8; 256]]) -> Result<(), Malformed>
     requires long { length sig.now ≡ sig_length (dsa_numbers p) }
     requires rows { length hs.old ≡ p.k }
-    ensures good { result ≡ hints_rise (dsa_numbers p) sig.now p.k && hint_padding_zero (dsa_numbers p) sig.now }
-    ensures rows { T result → hs.new ≡ tables p.k (hint_row (dsa_numbers p) sig.now) }
+    ensures good { is_ok result ≡ hints_rise (dsa_numbers p) sig.now p.k && hint_padding_zero (dsa_numbers p) sig.now }
+    ensures rows { OnOk result (hs.new ≡ tables p.k (hint_row (dsa_numbers p) sig.now)) }
 {
     let part = &sig[p.lambda / 4 + 32 * (p.gamma1_bits + 1) * p.l..];
     let mut begin = 0;
-    for i in 0..hs.len() {
+    for (i, row) in hs.iter_mut().enumerate() {
         let end = part[p.omega + i] as usize;
-        if !unpack_row(p.omega, part, begin, end, &mut hs[i]) {
-            return false;
-        }
+        unpack_row(p.omega, part, begin, end, row)?;
         begin = end;
     }
-    let omega = p.omega;
-    all_zero(&part[begin..omega])
+    if all_zero(&part[begin..p.omega]) {
+        Ok(())
+    } else {
+        Err(Malformed)
+    }
 }

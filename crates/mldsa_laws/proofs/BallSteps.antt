@@ -1,6 +1,6 @@
 -- SampleInBall step by step, from a reader of the stream.
 use Rattle.std.proofs.Common.{◌≡◌, ℕ, zero, suc, ◌+◌, ◌-◌, ◌*◌, ◌/◌, ◌%◌, ◌^◌, ◌<◌, ◌≤◌, cond, eqb, leb, ◌⊎◌, List, set, sym, refl, ap, ◌∙◌, ap₂, inl, inr, add_assoc, arith}
-use mathlib.Core.Path.{fun_ext}
+use Rattle.std.proofs.Math.Path.{fun_ext}
 use Rattle.std.proofs.lemmas.Bool.{cond-true, cond-false, cond_both, le-leb, lt-leb, eq-eqb, ne_eqb, cases_eq}
 use Rattle.standards.specs.Lists.{table, at}
 use Rattle.standards.specs.MlDsaParts.{first_at_most, ball_steps}
@@ -97,3 +97,10 @@ next_read s r seen b on is = is ∙ (ap (λ (f : ℕ → ℕ). f 0) on ∙ ap s 
 pub next_onward : (s r r1 : ℕ → ℕ) (seen : ℕ) → r ≡ (λ k. s (seen + k)) → r1 ≡ (λ k. r (1 + k)) → r1 ≡ (λ k. s (seen + 1 + k))
 next_onward s r r1 seen on is =
     is ∙ fun_ext (λ k. ap (λ (f : ℕ → ℕ). f (1 + k)) on ∙ ap s {x = seen + (1 + k)} {y = seen + 1 + k} (omega arith))
+
+-- a byte that is the one looked for: small enough, or the one after all
+pub place_found : (s r r1 : ℕ → ℕ) (all seen i b goal : ℕ) → r ≡ (λ k. s (seen + k)) → first_at_most (all - seen) seen i s ≡ goal → b ≡ r 0 → r1 ≡ (λ k. r (1 + k)) → (b ≤ i) ⊎ (all ≤ seen) → (b ≡ s goal) × (r1 ≡ (λ k. s (goal + 1 + k)))
+place_found s r r1 all seen i b goal on e is onward end =
+    let v = next_read s r seen b on is in
+    let at = sym (first_found s all seen i b goal v end e) in
+    (v ∙ ap s at, next_onward s r r1 seen on onward ∙ ap (λ n k. s (n + 1 + k)) at)

@@ -18,5 +18,4 @@ pub mod OneSpelling
 pub mod NormTests
 pub mod RowLoops
 pub mod AttemptSteps
-pub mod Candidates
 pub mod BallSteps

@@ -1,10 +1,12 @@
 // BitPack and BitUnpack of numbers modulo q around 0, and t1 as verification multiplies by it.
+#![tactic(auto, using(crate::proofs::Numbers::number_loops))]
+
 ghost use Rattle.std.specs.Prelude.{◌≡◌, ◌*◌, ◌%◌, ◌<◌, T, length};
 ghost use Rattle.standards.specs.Lists.{table, at, all_below};
 ghost use Rattle.standards.specs.MlDsaParts.{bit_pack, bit_unpack};
 ghost use Rattle.packing.specs.Widths.{dsa_width};
 
-use packing::{pack_u32, unpack_u32};
+use packing::{pack, unpack};
 
 const Q: u32 = 8380417;
 
@@ -18,7 +20,7 @@ pub fn bit_pack(d: usize, b: u32, f: &[u32; 256], out: &mut [u8])
     for i in 0..256 {
         g[i] = (b + (Q - f[i])) % Q;
     }
-    pack_u32(d, &g, out);
+    pack(d, &g, out);
 }
 
 // The way back. What is unpacked has at most 20 bits, so it is below q.
@@ -28,7 +30,7 @@ pub fn bit_unpack(d: usize, b: u32, bs: &[u8], f: &mut [u32; 256])
     ensures value { f.new ≡ bit_unpack d b bs.now }
     ensures below { T (all_below 8380417 f.new) }
 {
-    unpack_u32(d, bs, f);
+    unpack(d, bs, f);
     for i in 0..256 {
         f[i] = (b + (Q - f[i])) % Q;
     }

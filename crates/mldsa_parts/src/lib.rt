@@ -2,5 +2,6 @@
 #![tactic(auto)]
 
 pub mod encoding;
+pub mod gamma2;
 pub mod norms;
 pub mod rounding;

@@ -16,6 +16,7 @@ fn magnitude(x: u32) -> u32
 }
 
 // Whether the norm of a polynomial is below a bound.
+#[tactic(auto, using(algebra::proofs::Tables::at_small))]
 pub fn norm_below(f: &[u32; 256], bound: u32) -> bool
     requires some { 0 < bound }
     requires below { T (all_below 8380417 f.now) }

@@ -1,10 +1,14 @@
 // Power2Round, HighBits, LowBits, MakeHint and UseHint, in whole numbers.
 // There is no branch on a number: gamma2 is public, and each division is by a constant, which the compiler turns into a product and a shift.
+#![tactic(auto, using(crate::proofs::Numbers::number_loops))]
+
 ghost use Rattle.std.specs.Prelude.{◌≡◌, ◌+◌, ◌-◌, ◌%◌, ◌<◌, T};
 ghost use Rattle.standards.specs.Lists.{all_below};
 ghost use Rattle.standards.specs.Ring.{zero_p, add_p, sub_p};
 ghost use Rattle.standards.specs.MlDsaParts.{power2_round1, power2_round0, high_bits, low_bits, make_hint, use_hint, power2_round1_p, power2_round0_p, high_bits_p, low_bits_p, make_hint_p, use_hint_p};
-ghost use Rattle.mldsa_parts.specs.Gammas.{Gamma2};
+ghost use Rattle.mldsa_parts.specs.Gammas.{IsGamma2};
+
+use crate::gamma2::Gamma2;
 
 const Q: u32 = 8380417;
 
@@ -20,51 +24,54 @@ fn power2_low(r: u32) -> u32
     requires { r < 8380417 }
     ensures { result ≡ power2_round0 r }
 {
-    (r + (Q - 8192 * ((r + 4095) / 8192))) % Q
+    (r + (Q - 8192 * power2_high(r))) % Q
 }
 
-// Where r - r0 is q - 1 the quotient is 44, or 16, and stands for 0.
-fn high_number(gamma2: u32, r: u32) -> u32
-    requires set { Gamma2 gamma2 }
+// The high bits by 2 G, a constant in each of the two copies. Where r - r0 is q - 1 the quotient is their number, and stands for 0.
+fn high_by<const G: u32>(r: u32) -> u32
+    requires set { IsGamma2 G }
     requires below { r < 8380417 }
-    ensures { result ≡ high_bits gamma2 r }
+    ensures { result ≡ high_bits G r }
 {
-    if gamma2 == 95232 {
-        (r + 95231) / 190464 % 44
+    (r + (G - 1)) / (2 * G) % ((Q - 1) / (2 * G))
+}
+
+fn high_number(gamma2: Gamma2, r: u32) -> u32
+    requires { r < 8380417 }
+    ensures value { result ≡ high_bits gamma2.value r }
+    ensures below { result < 8380417 }
+{
+    if gamma2.value == 95232 {
+        high_by::<95232>(r)
     } else {
-        (r + 261887) / 523776 % 16
+        high_by::<261888>(r)
     }
 }
 
 // r less 2 gamma2 times its high bits, modulo q.
-fn low_number(gamma2: u32, r: u32) -> u32
-    requires set { Gamma2 gamma2 }
-    requires below { r < 8380417 }
-    ensures { result ≡ low_bits gamma2 r }
+fn low_number(gamma2: Gamma2, r: u32) -> u32
+    requires { r < 8380417 }
+    ensures value { result ≡ low_bits gamma2.value r }
+    ensures below { result < 8380417 }
 {
-    if gamma2 == 95232 {
-        (r + (Q - 190464 * ((r + 95231) / 190464 % 44))) % Q
-    } else {
-        (r + (Q - 523776 * ((r + 261887) / 523776 % 16))) % Q
-    }
+    (r + (Q - 2 * gamma2.value * high_number(gamma2, r))) % Q
 }
 
 // Adding -ct to v + ct gives v again.
-fn make_hint_number(gamma2: u32, v: u32, ct: u32) -> u8
-    requires set { Gamma2 gamma2 }
-    requires below { (v < 8380417) × (ct < 8380417) }
-    ensures { result ≡ make_hint gamma2 ((0 + (8380417 - ct % 8380417)) % 8380417) ((v + ct) % 8380417) }
+fn make_hint_number(gamma2: Gamma2, v: u32, ct: u32) -> u8
+    requires { (v < 8380417) × (ct < 8380417) }
+    ensures { result ≡ make_hint gamma2.value ((0 + (8380417 - ct % 8380417)) % 8380417) ((v + ct) % 8380417) }
 {
     (high_number(gamma2, (v + ct) % Q) != high_number(gamma2, v)) as u8
 }
 
 // The high bits go one up, or one down (m - 1 up), modulo their number m.
-fn use_hint_number(gamma2: u32, b: u8, r: u32) -> u32
-    requires set { Gamma2 gamma2 }
-    requires below { r < 8380417 }
-    ensures { result ≡ use_hint gamma2 b r }
+fn use_hint_number(gamma2: Gamma2, b: u8, r: u32) -> u32
+    requires { r < 8380417 }
+    ensures value { result ≡ use_hint gamma2.value b r }
+    ensures below { result < 8380417 }
 {
-    let m = if gamma2 == 95232 { 44 } else { 16 };
+    let m = if gamma2.value == 95232 { 44 } else { 16 };
     let low = low_number(gamma2, r);
     let up = (low > 0) as u32 * (2 * low <= Q) as u32;
     let step = up + (1 - up) * (m - 1);
@@ -86,10 +93,9 @@ pub fn power2_round(t: &mut [u32; 256], low: &mut [u32; 256])
 }
 
 // HighBits, number by number.
-pub fn high_bits(gamma2: u32, f: &mut [u32; 256])
-    requires set { Gamma2 gamma2 }
-    requires below { T (all_below 8380417 f.old) }
-    ensures value { f.new ≡ high_bits_p gamma2 f.old }
+pub fn high_bits(gamma2: Gamma2, f: &mut [u32; 256])
+    requires { T (all_below 8380417 f.old) }
+    ensures value { f.new ≡ high_bits_p gamma2.value f.old }
     ensures below { T (all_below 8380417 f.new) }
 {
     for i in 0..256 {
@@ -98,10 +104,9 @@ pub fn high_bits(gamma2: u32, f: &mut [u32; 256])
 }
 
 // LowBits, number by number, modulo q.
-pub fn low_bits(gamma2: u32, f: &mut [u32; 256])
-    requires set { Gamma2 gamma2 }
-    requires below { T (all_below 8380417 f.old) }
-    ensures value { f.new ≡ low_bits_p gamma2 f.old }
+pub fn low_bits(gamma2: Gamma2, f: &mut [u32; 256])
+    requires { T (all_below 8380417 f.old) }
+    ensures value { f.new ≡ low_bits_p gamma2.value f.old }
     ensures below { T (all_below 8380417 f.new) }
 {
     for i in 0..256 {
@@ -110,10 +115,9 @@ pub fn low_bits(gamma2: u32, f: &mut [u32; 256])
 }
 
 // MakeHint of -ct and v + ct, number by number.
-pub fn make_hint(gamma2: u32, v: &[u32; 256], ct: &[u32; 256], h: &mut [u8; 256])
-    requires set { Gamma2 gamma2 }
-    requires below { (T (all_below 8380417 v.now)) × (T (all_below 8380417 ct.now)) }
-    ensures { h.new ≡ make_hint_p gamma2 (sub_p 8380417 zero_p ct.now) (add_p 8380417 v.now ct.now) }
+pub fn make_hint(gamma2: Gamma2, v: &[u32; 256], ct: &[u32; 256], h: &mut [u8; 256])
+    requires { (T (all_below 8380417 v.now)) × (T (all_below 8380417 ct.now)) }
+    ensures { h.new ≡ make_hint_p gamma2.value (sub_p 8380417 zero_p ct.now) (add_p 8380417 v.now ct.now) }
 {
     for i in 0..256 {
         h[i] = make_hint_number(gamma2, v[i], ct[i]);
@@ -121,10 +125,9 @@ pub fn make_hint(gamma2: u32, v: &[u32; 256], ct: &[u32; 256], h: &mut [u8; 256]
 }
 
 // UseHint, number by number.
-pub fn use_hint(gamma2: u32, h: &[u8; 256], f: &mut [u32; 256])
-    requires set { Gamma2 gamma2 }
-    requires below { T (all_below 8380417 f.old) }
-    ensures value { f.new ≡ use_hint_p gamma2 h.now f.old }
+pub fn use_hint(gamma2: Gamma2, h: &[u8; 256], f: &mut [u32; 256])
+    requires { T (all_below 8380417 f.old) }
+    ensures value { f.new ≡ use_hint_p gamma2.value h.now f.old }
     ensures below { T (all_below 8380417 f.new) }
 {
     for i in 0..256 {

@@ -1,1 +1,1 @@
-mod ReadAhead
+mod Ahead

@@ -1,14 +1,16 @@
 // What a draw leaves: a row with noughts in its empty places.
-ghost use Rattle.std.specs.Prelude.{◌≡◌, ◌≤◌, length, take, ◌==◌};
-ghost use Rattle.standards.specs.Lists.{table, at};
+ghost use Rattle.std.specs.Prelude.{◌≡◌, ◌≤◌, T, length, ◌==◌};
+ghost use Rattle.standards.specs.Lists.{table, at, all_below};
 
-// The first `have` numbers of a row, and noughts behind them: whether none are needed.
-pub fn put_drawn(row: &[u32], have: usize, f: &mut [u32; 256]) -> bool
-    requires { (have ≤ 256) × (have ≤ length row.now) }
-    ensures full { result ≡ (have == 256) }
-    ensures row { f.new ≡ table 256 (at (take have row.now)) }
+// The numbers that were drawn, and noughts behind them: whether none are needed.
+pub fn put_drawn(drawn: &[u32], f: &mut [u32; 256]) -> bool
+    requires { length drawn.now ≤ 256 }
+    ensures full { result ≡ (length drawn.now == 256) }
+    ensures row { f.new ≡ table 256 (at drawn.now) }
+    ensures below { T (all_below 8380417 drawn.now) → T (all_below 8380417 f.new) }
 {
+    let have = drawn.len();
     f.fill(0);
-    f[0..have].copy_from_slice(&row[0..have]);
+    f[0..have].copy_from_slice(drawn);
     have == 256
 }

@@ -5,4 +5,5 @@ pub mod ball;
 pub mod bounded;
 mod drawn;
 pub mod mask;
+mod read_ahead;
 pub mod uniform;

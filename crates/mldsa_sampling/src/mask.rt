@@ -2,7 +2,7 @@
 ghost use Rattle.std.specs.Prelude.{◌≡◌, T};
 ghost use Rattle.standards.specs.Lists.{all_below};
 ghost use Rattle.standards.specs.MlDsaParts.{expand_mask};
-ghost use Rattle.sets.specs.Sets.{dsa_numbers, DsaFits};
+ghost use Rattle.sets.specs.Sets.{dsa_numbers};
 
 use hash::Hash;
 use mldsa_parts::encoding::bit_unpack;
@@ -10,7 +10,6 @@ use sets::types::DsaSet;
 
 // Polynomial n of the mask out of the seed rho; the counter's low byte comes first. 640 bytes are 256 numbers of 20 bits.
 pub fn expand_mask<H: Hash>(p: DsaSet, rho: &[u8], n: u16, f: &mut [u32; 256])
-    requires { DsaFits p }
     ensures value { f.new ≡ expand_mask H.Hash.hashes (dsa_numbers p) rho.now n }
     ensures below { T (all_below 8380417 f.new) }
 {

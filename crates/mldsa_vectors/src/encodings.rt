@@ -1,4 +1,6 @@
 // Rows to bytes and back, one row after the other.
+#![tactic(auto, using(mldsa_laws::proofs::RowLoops::rows_are))]
+
 ghost use Rattle.std.specs.Prelude.{◌≡◌, ◌+◌, ◌*◌, ◌<◌, ◌≤◌, T, length, take, drop};
 ghost use Rattle.standards.specs.Lists.{row_at, tables, joined};
 ghost use Rattle.standards.specs.Bytes.{pack};
@@ -7,7 +9,7 @@ ghost use Rattle.algebra.specs.RowArrays.{RowsBelow};
 ghost use Rattle.packing.specs.Widths.{dsa_width};
 
 use mldsa_parts::encoding::{bit_pack, bit_unpack};
-use packing::pack_u32;
+use packing::pack;
 
 // BitUnpack of each row, out of bytes from `start` on.
 pub fn bit_unpack_rows(d: usize, b: u32, bs: &[u8], start: usize, v: &mut [[u32; 256]])
@@ -47,6 +49,6 @@ pub fn simple_bit_pack_rows(d: usize, v: &[[u32; 256]], out: &mut [u8])
 {
     let w = 32 * d;
     for i in 0..v.len() {
-        pack_u32(d, &v[i], &mut out[w * i..w * i + w]);
+        pack(d, &v[i], &mut out[w * i..w * i + w]);
     }
 }

@@ -1,11 +1,15 @@
 // Transforms and products of rows. In every contract row i of the result is an equation of its own; all numbers stay below q.
+#![tactic(auto, using(mldsa_laws::proofs::RowLoops::rows_are))]
+
 ghost use Rattle.std.specs.Prelude.{◌≡◌, ℕ, ◌+◌, ◌*◌, ◌<◌, ◌≤◌, T, length};
 ghost use Rattle.standards.specs.Lists.{row_at, tables, all_below};
 ghost use Rattle.standards.specs.Ring.{add_p, sub_p, sum_p};
 ghost use Rattle.standards.specs.MlDsaParts.{ntt as dsa_ntt, ntt_inv, multiply_ntt};
 ghost use Rattle.algebra.specs.RowArrays.{RowsBelow};
 
-use ring::dsa::{add, multiply_add, multiply_ntt, ntt, ntt_inverse, sub};
+use ring::dsa::{multiply_add, multiply_ntt};
+use ring::pointwise::{add, sub};
+use ring::transform::{ntt, ntt_inverse};
 
 // NTT of each row.
 pub fn ntt_rows(v: &mut [[u32; 256]])
@@ -49,15 +53,16 @@ pub fn matrix_product(a: &[[u32; 256]], s: &[[u32; 256]], w: &mut [[u32; 256]])
 }
 
 // c times s, transformed back.
-fn product(c: &[u32; 256], s: &[u32; 256], f: &mut [u32; 256])
+fn product(c: &[u32; 256], s: &[u32; 256]) -> [u32; 256]
     requires left { T (all_below 8380417 c.now) }
     requires right { T (all_below 8380417 s.now) }
-    ensures value { f.new ≡ ntt_inv (multiply_ntt c.now s.now) }
-    ensures below { T (all_below 8380417 f.new) }
+    ensures value { result ≡ ntt_inv (multiply_ntt c.now s.now) }
+    ensures below { T (all_below 8380417 result) }
 {
-    *f = *c;
-    multiply_ntt(f, s);
-    ntt_inverse(f);
+    let mut f = *c;
+    multiply_ntt(&mut f, s);
+    ntt_inverse(&mut f);
+    f
 }
 
 // c times each row of s, transformed back.
@@ -69,9 +74,7 @@ pub fn products(c: &[u32; 256], s: &[[u32; 256]], out: &mut [[u32; 256]])
     ensures below { RowsBelow 8380417 (length out.old) out.new }
 {
     for i in 0..out.len() {
-        let mut f = [0u32; 256];
-        product(c, &s[i], &mut f);
-        out[i] = f;
+        out[i] = product(c, &s[i]);
     }
 }
 
@@ -85,9 +88,7 @@ pub fn add_products(v: &mut [[u32; 256]], c: &[u32; 256], s: &[[u32; 256]])
     ensures below { RowsBelow 8380417 (length v.old) v.new }
 {
     for i in 0..v.len() {
-        let mut f = [0u32; 256];
-        product(c, &s[i], &mut f);
-        add(&mut v[i], &f);
+        add(&mut v[i], &product(c, &s[i]));
     }
 }
 
@@ -101,8 +102,6 @@ pub fn sub_products(v: &mut [[u32; 256]], c: &[u32; 256], s: &[[u32; 256]])
     ensures below { RowsBelow 8380417 (length v.old) v.new }
 {
     for i in 0..v.len() {
-        let mut f = [0u32; 256];
-        product(c, &s[i], &mut f);
-        sub(&mut v[i], &f);
+        sub(&mut v[i], &product(c, &s[i]));
     }
 }

@@ -1,11 +1,13 @@
 // Rounding and hints, row by row.
+#![tactic(auto, using(mldsa_laws::proofs::RowLoops::rows_are))]
+
 ghost use Rattle.std.specs.Prelude.{◌≡◌, T, length};
 ghost use Rattle.standards.specs.Lists.{row_at, tables};
 ghost use Rattle.standards.specs.Ring.{zero_p, add_p, sub_p};
 ghost use Rattle.standards.specs.MlDsaParts.{power2_round1_p, power2_round0_p, high_bits_p, low_bits_p, make_hint_p, use_hint_p};
 ghost use Rattle.algebra.specs.RowArrays.{RowsBelow};
-ghost use Rattle.mldsa_parts.specs.Gammas.{Gamma2};
 
+use mldsa_parts::gamma2::Gamma2;
 use mldsa_parts::rounding::{high_bits, low_bits, make_hint, power2_round, use_hint};
 
 // Power2Round: the rows of t become the high parts, those of low the low parts.
@@ -22,10 +24,9 @@ pub fn power2_round_rows(t: &mut [[u32; 256]], low: &mut [[u32; 256]])
 }
 
 // HighBits of each row.
-pub fn high_bits_rows(gamma2: u32, v: &mut [[u32; 256]])
-    requires set { Gamma2 gamma2 }
-    requires below { RowsBelow 8380417 (length v.old) v.old }
-    ensures { v.new ≡ tables (length v.old) (λ i. high_bits_p gamma2 (row_at v.old i)) }
+pub fn high_bits_rows(gamma2: Gamma2, v: &mut [[u32; 256]])
+    requires { RowsBelow 8380417 (length v.old) v.old }
+    ensures { v.new ≡ tables (length v.old) (λ i. high_bits_p gamma2.value (row_at v.old i)) }
 {
     for i in 0..v.len() {
         high_bits(gamma2, &mut v[i]);
@@ -33,10 +34,9 @@ pub fn high_bits_rows(gamma2: u32, v: &mut [[u32; 256]])
 }
 
 // LowBits of each row.
-pub fn low_bits_rows(gamma2: u32, v: &mut [[u32; 256]])
-    requires set { Gamma2 gamma2 }
-    requires below { RowsBelow 8380417 (length v.old) v.old }
-    ensures value { v.new ≡ tables (length v.old) (λ i. low_bits_p gamma2 (row_at v.old i)) }
+pub fn low_bits_rows(gamma2: Gamma2, v: &mut [[u32; 256]])
+    requires { RowsBelow 8380417 (length v.old) v.old }
+    ensures value { v.new ≡ tables (length v.old) (λ i. low_bits_p gamma2.value (row_at v.old i)) }
     ensures below { RowsBelow 8380417 (length v.old) v.new }
 {
     for i in 0..v.len() {
@@ -45,12 +45,11 @@ pub fn low_bits_rows(gamma2: u32, v: &mut [[u32; 256]])
 }
 
 // MakeHint of -ct and v + ct.
-pub fn make_hint_rows(gamma2: u32, v: &[[u32; 256]], ct: &[[u32; 256]], hs: &mut [[u8; 256]])
-    requires set { Gamma2 gamma2 }
+pub fn make_hint_rows(gamma2: Gamma2, v: &[[u32; 256]], ct: &[[u32; 256]], hs: &mut [[u8; 256]])
     requires long { (length v.now ≡ length hs.old) × (length ct.now ≡ length hs.old) }
     requires left { RowsBelow 8380417 (length v.now) v.now }
     requires right { RowsBelow 8380417 (length ct.now) ct.now }
-    ensures { hs.new ≡ tables (length hs.old) (λ i. make_hint_p gamma2 (sub_p 8380417 zero_p (row_at ct.now i)) (add_p 8380417 (row_at v.now i) (row_at ct.now i))) }
+    ensures { hs.new ≡ tables (length hs.old) (λ i. make_hint_p gamma2.value (sub_p 8380417 zero_p (row_at ct.now i)) (add_p 8380417 (row_at v.now i) (row_at ct.now i))) }
 {
     for i in 0..hs.len() {
         make_hint(gamma2, &v[i], &ct[i], &mut hs[i]);
@@ -58,11 +57,10 @@ pub fn make_hint_rows(gamma2: u32, v: &[[u32; 256]], ct: &[[u32; 256]], hs: &mut
 }
 
 // UseHint of each row.
-pub fn use_hint_rows(gamma2: u32, hs: &[[u8; 256]], v: &mut [[u32; 256]])
-    requires set { Gamma2 gamma2 }
+pub fn use_hint_rows(gamma2: Gamma2, hs: &[[u8; 256]], v: &mut [[u32; 256]])
     requires long { length hs.now ≡ length v.old }
     requires below { RowsBelow 8380417 (length v.old) v.old }
-    ensures { v.new ≡ tables (length v.old) (λ i. use_hint_p gamma2 (row_at hs.now i) (row_at v.old i)) }
+    ensures { v.new ≡ tables (length v.old) (λ i. use_hint_p gamma2.value (row_at hs.now i) (row_at v.old i)) }
 {
     for i in 0..v.len() {
         use_hint(gamma2, &hs[i], &mut v[i]);

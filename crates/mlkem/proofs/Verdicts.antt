@@ -25,6 +25,10 @@ pub passed : (b : Bool) → ◌≡◌ {A = ℕ} 0 (cond b 0 1) → b ≡ true
 passed true e = refl
 passed false e = absurd (omega arith)
 
+pub drawn : (b : Bool) → ◌≡◌ {A = ℕ} 0 (cond b 0 4) → b ≡ true
+drawn true e = refl
+drawn false e = absurd (omega arith)
+
 pub key_passed : (v : ℕ) → ◌≡◌ {A = ℕ} 0 (cond (eqb v 1) 2 (cond (eqb v 0) 0 3)) → v ≡ 0
 key_passed v e = grind (arith, nat_tests)
 

@@ -5,20 +5,21 @@ ghost use Rattle.standards.specs.Bytes.{pack};
 ghost use Rattle.standards.specs.Hashes.{Hashes};
 ghost use Rattle.standards.specs.MlKem.{matrix_drawn, rho_of, sigma_of, ek_of, dk_of, ek_rho, dk_ek, decaps};
 ghost use Rattle.algebra.specs.RowArrays.{RowsBelow, RowsAre};
-ghost use Rattle.sets.specs.Sets.{kem_numbers, KemFits};
+ghost use Rattle.standards.specs.Calls.{after};
+ghost use Rattle.sets.specs.Sets.{kem_numbers, verdict_of};
 ghost use Rattle.kpke.specs.Matrix.{entry_at};
 ghost use Rattle.mlkem.specs.PublicRows.{t_row};
 
 use hash::Hash;
 use kpke::cipher::{decrypt, encrypt};
 use kpke::rows::{dot, encode_rows, expand, small_poly, small_rows};
-use ring::kem::{add, ntt};
+use ring::pointwise::add;
+use ring::transform::ntt;
 use select::{choose, differ};
-use sets::types::KemSet;
+use sets::types::{KemSet, Refusal};
 
 // G of d and the byte k, cut in two.
 fn key_seeds<H: Hash>(p: KemSet, d: &[u8; 32], rho: &mut [u8; 32], sigma: &mut [u8; 32])
-    requires { KemFits p }
     ensures rho { rho.new ≡ rho_of H.Hash.hashes (kem_numbers p) d.now }
     ensures sigma { sigma.new ≡ sigma_of H.Hash.hashes (kem_numbers p) d.now }
 {
@@ -35,7 +36,6 @@ fn t_rows<H: Hash>(
     s: &[[u16; 256]; 4],
     t: &mut [[u16; 256]; 4],
 )
-    requires fits { KemFits p }
     requires left { RowsBelow 3329 (p.k * p.k) a.now }
     requires right { RowsBelow 3329 p.k s.now }
     ensures { RowsAre p.k (t_row H.Hash.hashes p.k p.eta1 sigma.now a.now s.now) t.new }
@@ -72,29 +72,32 @@ fn write_dk<H: Hash>(k: usize, s: &[[u16; 256]; 4], ek: &[u8], z: &[u8; 32], dk:
     dk[768 * k + 64..768 * k + 96].copy_from_slice(z);
 }
 
-// A pair of keys: whether every draw was full. If not, nothing is written.
-pub fn key_gen<H: Hash>(p: KemSet, d: &[u8; 32], z: &[u8; 32], ek: &mut [u8], dk: &mut [u8]) -> bool
-    requires fits { KemFits p }
+// A pair of keys, if every draw is full. If not, nothing is written.
+pub fn key_gen<H: Hash>(
+    p: KemSet,
+    d: &[u8; 32],
+    z: &[u8; 32],
+    ek: &mut [u8],
+    dk: &mut [u8],
+) -> Result<(), Refusal>
     requires public { length ek.old ≡ 384 * p.k + 32 }
     requires secret { length dk.old ≡ 768 * p.k + 96 }
-    ensures drawn { result ≡ matrix_drawn H.Hash.hashes (kem_numbers p) (rho_of H.Hash.hashes (kem_numbers p) d.now) }
-    ensures public { ek.new ≡ (if result then ek_of H.Hash.hashes (kem_numbers p) d.now else ek.old) }
-    ensures secret { dk.new ≡ (if result then dk_of H.Hash.hashes (kem_numbers p) d.now z.now else dk.old) }
+    ensures drawn { verdict_of result ≡ (if matrix_drawn H.Hash.hashes (kem_numbers p) (rho_of H.Hash.hashes (kem_numbers p) d.now) then 0 else 4) }
+    ensures public { ek.new ≡ after (verdict_of result) (ek_of H.Hash.hashes (kem_numbers p) d.now) ek.old }
+    ensures secret { dk.new ≡ after (verdict_of result) (dk_of H.Hash.hashes (kem_numbers p) d.now z.now) dk.old }
 {
     let mut rho = [0u8; 32];
     let mut sigma = [0u8; 32];
     key_seeds::<H>(p, d, &mut rho, &mut sigma);
     let mut a = [[0u16; 256]; 16];
-    if !expand::<H>(p, &rho, &mut a) {
-        return false;
-    }
+    expand::<H>(p, &rho, &mut a)?;
     let mut s = [[0u16; 256]; 4];
     small_rows::<H>(p.eta1, &sigma, p.k, &mut s);
     let mut t = [[0u16; 256]; 4];
     t_rows::<H>(p, &sigma, &a, &s, &mut t);
     write_ek(p.k, &t, &rho, ek);
     write_dk::<H>(p.k, &s, ek, z, dk);
-    true
+    Ok(())
 }
 
 // The key of a ciphertext, with the matrix drawn already. The ciphertext is made again and compared whole, and the key is chosen by a mask.
@@ -105,7 +108,6 @@ pub fn decapsulate<H: Hash>(
     c: &[u8],
     key: &mut [u8; 32],
 )
-    requires fits { KemFits p }
     requires entries { RowsAre (p.k * p.k) (entry_at H.Hash.hashes p.k (ek_rho (kem_numbers p) (dk_ek (kem_numbers p) dk.now))) a.now }
     requires below { RowsBelow 3329 (p.k * p.k) a.now }
     requires secret { length dk.now ≡ 768 * p.k + 96 }

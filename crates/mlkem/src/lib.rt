@@ -13,8 +13,7 @@ pub mod kem;
 use checks::{check_ek, encapsulation_key, expand_key, key_and_coins, same_hash};
 use hash::Hash;
 use kpke::cipher::encrypt;
-use sets::kem_set;
-use sets::types::Refusal;
+use sets::types::{KemSet, Refusal};
 
 // ML-KEM.KeyGen of the seeds d and z.
 pub fn keys<H: Hash>(
@@ -28,14 +27,11 @@ pub fn keys<H: Hash>(
     ensures public { ek.new ≡ after (verdict_of result) (ek_of H.Hash.hashes (kem_of set) d.now) ek.old }
     ensures secret { dk.new ≡ after (verdict_of result) (dk_of H.Hash.hashes (kem_of set) d.now z.now) dk.old }
 {
-    let p = kem_set(set)?;
-    if ek.len() != 384 * p.k + 32 || dk.len() != 768 * p.k + 96 {
+    let p = KemSet::try_from(set)?;
+    if ek.len() != p.ek_length() || dk.len() != p.dk_length() {
         return Err(Refusal::Length);
     }
-    if !kem::key_gen::<H>(p, d, z, ek, dk) {
-        return Err(Refusal::Draw);
-    }
-    Ok(())
+    kem::key_gen::<H>(p, d, z, ek, dk)
 }
 
 // ML-KEM.Encaps of a key with the coin m.
@@ -50,15 +46,13 @@ pub fn encapsulate<H: Hash>(
     ensures key { key.new ≡ after (verdict_of result) (encaps_key H.Hash.hashes ek.now m.now) key.old }
     ensures text { text.new ≡ after (verdict_of result) (encaps_text H.Hash.hashes (kem_of set) ek.now m.now) text.old }
 {
-    let p = kem_set(set)?;
-    if text.len() != 32 * (p.du * p.k + p.dv) {
+    let p = KemSet::try_from(set)?;
+    if text.len() != p.text_length() {
         return Err(Refusal::Length);
     }
     check_ek(p, ek)?;
     let mut a = [[0u16; 256]; 16];
-    if !expand_key::<H>(p, ek, &mut a) {
-        return Err(Refusal::Draw);
-    }
+    expand_key::<H>(p, ek, &mut a)?;
     let g = key_and_coins::<H>(ek, m);
     key.copy_from_slice(&g[0..32]);
     encrypt::<H>(p, &a, ek, m, &g[32..64], text);
@@ -70,17 +64,15 @@ pub fn decapsulate<H: Hash>(set: u8, dk: &[u8], c: &[u8], key: &mut [u8; 32]) ->
     ensures verdict { verdict_of result ≡ decaps_verdict H.Hash.hashes set dk.now c.now }
     ensures key { key.new ≡ after (verdict_of result) (decaps H.Hash.hashes (kem_of set) dk.now c.now) key.old }
 {
-    let p = kem_set(set)?;
-    if dk.len() != 768 * p.k + 96 || c.len() != 32 * (p.du * p.k + p.dv) {
+    let p = KemSet::try_from(set)?;
+    if dk.len() != p.dk_length() || c.len() != p.text_length() {
         return Err(Refusal::Length);
     }
     if !same_hash::<H>(p, dk) {
         return Err(Refusal::Key);
     }
     let mut a = [[0u16; 256]; 16];
-    if !expand_key::<H>(p, encapsulation_key(p, dk), &mut a) {
-        return Err(Refusal::Draw);
-    }
+    expand_key::<H>(p, encapsulation_key(p, dk), &mut a)?;
     kem::decapsulate::<H>(p, &a, dk, c, key);
     Ok(())
 }

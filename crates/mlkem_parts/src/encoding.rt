@@ -5,7 +5,7 @@ ghost use Rattle.standards.specs.MlKemParts.{byte_decode12};
 ghost use Rattle.standards.specs.MlKem.{mu as mu_of};
 
 use crate::rounding::decompress;
-use packing::unpack_u16;
+use packing::unpack;
 
 // Numbers of 12 bits, modulo q.
 pub fn byte_decode_12(bs: &[u8], f: &mut [u16; 256])
@@ -13,7 +13,7 @@ pub fn byte_decode_12(bs: &[u8], f: &mut [u16; 256])
     ensures value { f.new ≡ byte_decode12 bs.now }
     ensures below { T (all_below 3329 f.new) }
 {
-    unpack_u16(12, bs, f);
+    unpack(12, bs, f);
     for i in 0..256 {
         f[i] %= 3329;
     }
@@ -24,6 +24,6 @@ pub fn mu(m: &[u8; 32], f: &mut [u16; 256])
     ensures value { f.new ≡ mu_of m.now }
     ensures below { T (all_below 3329 f.new) }
 {
-    unpack_u16(1, m, f);
+    unpack(1, m, f);
     decompress(1, f);
 }

@@ -5,7 +5,7 @@ ghost use Rattle.standards.specs.MlKemParts.{sample_poly_cbd};
 ghost use Rattle.packing.specs.Widths.{kem_width};
 ghost use Rattle.mlkem_parts.specs.Bits.{bits_less};
 
-use packing::unpack_u16;
+use packing::unpack;
 
 // The number of 2 ETA bits v. Both sums are at most ETA.
 fn cbd_number<const ETA: usize>(v: u16) -> u16
@@ -26,7 +26,7 @@ fn cbd_row<const ETA: usize>(bs: &[u8], f: &mut [u16; 256])
     ensures value { f.new ≡ sample_poly_cbd ETA bs.now }
     ensures below { T (all_below 3329 f.new) }
 {
-    unpack_u16(2 * ETA, bs, f);
+    unpack(2 * ETA, bs, f);
     for i in 0..256 {
         f[i] = cbd_number::<ETA>(f[i]);
     }

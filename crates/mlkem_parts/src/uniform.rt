@@ -1,97 +1,79 @@
-// SampleNTT: numbers below q, drawn by rejection out of a public stream. Whole blocks are read, and a number is kept without a branch.
-ghost use Rattle.std.specs.Prelude.{◌≡◌, ◌+◌, ◌*◌, ◌<◌, ◌≤◌, T, ◌++◌, length, take, MatchOption, ◌==◌};
-ghost use Rattle.standards.specs.Lists.{table, at, all_below};
-ghost use Rattle.hash.specs.Streams.{later};
+// SampleNTT: numbers below q, drawn by rejection out of a public stream.
+ghost use Rattle.std.specs.Prelude.{◌≡◌, T, ◌≢◌, ◌++◌, length, IfSome, MatchOption};
+ghost use Rattle.standards.specs.Lists.{all_below};
 ghost use Rattle.standards.specs.MlKemParts.{sample_ntt};
-ghost use Rattle.mlkem_parts.specs.Candidates.{kept12, drawn12};
 
-use hash::{Hash, Reader};
+use draws::candidates::Candidates;
+use draws::draw;
+use draws::row::Row;
+use hash::Hash;
 
-// Groups of three bytes that are looked at, and those in a block of SHAKE128.
-const GROUPS: usize = 1024;
+// Numbers of 12 bits, two in a group of three bytes, of which those below q are kept. A block of SHAKE128 has 56 groups.
+#[derive(Clone, Copy)]
+struct BelowQ;
 
-const BLOCK: usize = 56;
+impl Candidates<368> for BelowQ {
+    ghost use Rattle.std.specs.Prelude.{nat_lt};
+    ghost use Rattle.std.proofs.Common.{lit<, lit≤};
+    ghost use Rattle.std.proofs.lemmas.Bool.{ltb-true};
+    ghost use Rattle.standards.specs.MlKemParts.{candidate12};
+    ghost use Rattle.algebra.proofs.Candidates.{candidate12_block};
 
-// Candidates out of whole groups of three bytes, two for each. One is written behind those that were kept before, and counts if it is below q:
-// there is room for a whole block behind 255 numbers.
-fn draw_block(block: &[u8], groups: usize, row: &mut [u16; 368], before: usize) -> usize
-    requires { (groups ≤ 56) × ((before < 256) × (length block.now ≡ 3 * groups)) }
-    ensures front { take result row.new ≡ take before row.old ++ kept12 (at block.now) (2 * groups) }
-    ensures count { result ≤ before + 2 * groups }
-{
-    let mut have = before;
-    for g in 0..groups {
-        let (a, b, c) = (
-            block[3 * g] as u16,
-            block[3 * g + 1] as u16,
-            block[3 * g + 2] as u16,
-        );
+    type Number = u16;
+
+    ghost BYTES = { 3 };
+
+    const BYTES: usize = 3;
+
+    ghost EACH = { 2 };
+
+    const EACH: usize = 2;
+
+    ghost GROUPS = { 1024 };
+
+    const GROUPS: usize = 1024;
+
+    ghost BLOCK = { 56 };
+
+    const BLOCK: usize = 56;
+
+    ghost candidate = { candidate12 };
+
+    ghost fits = { λ _ x. nat_lt x 3329 };
+
+    ghost number = { λ _ x. x };
+
+    ghost bound = { 3329 };
+
+    ghost of_block = { candidate12_block };
+
+    ghost small = { λ _ x e. ltb-true x 3329 e };
+
+    ghost block_some = { lit< tt };
+
+    ghost block_fits = { lit≤ tt };
+
+    ghost room_fits = { lit≤ tt };
+
+    #[tactic(auto, unfolding(algebra::specs::Draws::accepted))]
+    fn offer(self, group: &[u8], row: &mut Row<u16, 368>) {
+        let (a, b, c) = (group[0] as u16, group[1] as u16, group[2] as u16);
         let x = a + 256 * (b % 16);
-        row[have] = x;
-        have += (x < 3329) as usize;
+        row.offer(x, x < 3329);
         let y = b / 16 + 16 * c;
-        row[have] = y;
-        have += (y < 3329) as usize;
+        row.offer(y, y < 3329);
     }
-    have
 }
 
-// The same out of the next bytes of a stream, which go through `block`.
-fn draw_next<R: Reader>(
-    reader: &mut R,
-    groups: usize,
-    block: &mut [u8; 168],
-    row: &mut [u16; 368],
-    before: usize,
-) -> usize
-    requires { (groups ≤ 56) × (before < 256) }
-    ensures front { take result row.new ≡ take before row.old ++ kept12 (at (table (3 * groups) (R.Reader.rest reader.old))) (2 * groups) }
-    ensures count { result ≤ before + 2 * groups }
-    ensures onward { R.Reader.rest reader.new ≡ later (3 * groups) (R.Reader.rest reader.old) }
+// SampleNTT of a seed that is lent in two parts, or nothing if the candidates ran out before 256 numbers were kept.
+pub fn sample_ntt<H: Hash>(rho: &[u8], entry: &[u8]) -> Option<[u16; 256]>
+    ensures drawn { MatchOption result (length (sample_ntt H.Hash.hashes (rho.now ++ entry.now)) ≢ 256) (λ f. (length (sample_ntt H.Hash.hashes (rho.now ++ entry.now)) ≡ 256) × (f ≡ sample_ntt H.Hash.hashes (rho.now ++ entry.now))) }
+    ensures below { IfSome result (λ f. T (all_below 3329 f)) }
 {
-    let part = &mut block[0..3 * groups];
-    reader.squeeze(part);
-    draw_block(part, groups, row, before)
-}
-
-// Draws till the first 256 places are full, out of 1,024 groups at most (18 blocks and 16 groups): how many groups were read, if they are.
-fn draw<R: Reader>(reader: &mut R, row: &mut [u16; 368]) -> Option<usize>
-    ensures { MatchOption result (length (drawn12 (R.Reader.rest reader.old)) < 256) (λ _. take 256 row.new ≡ drawn12 (R.Reader.rest reader.old)) }
-{
-    let mut have: usize = 0;
-    let mut seen: usize = 0;
-    'draw: loop {
-        if have >= 256 {
-            break 'draw;
-        }
-        if seen >= GROUPS {
-            return None;
-        }
-        let groups = if GROUPS - seen < BLOCK {
-            GROUPS - seen
-        } else {
-            BLOCK
-        };
-        let mut block = [0u8; 168];
-        have = draw_next(reader, groups, &mut block, row, have);
-        seen += groups;
-    }
-    Some(seen)
-}
-
-// SampleNTT of a seed that is lent in two parts: whether the draw was full. If not, nothing is said of f.
-pub fn sample_ntt<H: Hash>(rho: &[u8], entry: &[u8], f: &mut [u16; 256]) -> bool
-    ensures full { result ≡ (length (sample_ntt H.Hash.hashes (rho.now ++ entry.now)) == 256) }
-    ensures value { T result → f.new ≡ sample_ntt H.Hash.hashes (rho.now ++ entry.now) }
-    ensures below { T result → T (all_below 3329 f.new) }
-{
-    let mut row = [0u16; 368];
+    let mut row: Row<u16, 368> = Row::new();
     let mut reader = H::shake128(rho, entry);
-    match draw(&mut reader, &mut row) {
-        Some(_) => {
-            f.copy_from_slice(&row[0..256]);
-            true
-        }
-        None => false,
-    }
+    draw(BelowQ, &mut reader, &mut row)?;
+    let mut f = [0u16; 256];
+    f.copy_from_slice(row.as_slice());
+    Some(f)
 }

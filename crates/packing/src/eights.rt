@@ -2,7 +2,8 @@
 ghost use Rattle.std.specs.Prelude.{◌≡◌, ◌*◌, ◌<◌, ◌≤◌, length};
 ghost use Rattle.standards.specs.Bytes.{pack, unpack};
 
-use super::coefficients::Coefficients;
+use super::coefficients::{eight, set_eight};
+use words::Word;
 
 // The D bytes of eight numbers. At most D + 7 bits wait in the word at a time.
 fn pack_eight<const D: usize>(x: &[u32; 8], out: &mut [u8])
@@ -49,23 +50,23 @@ fn unpack_eight<const D: usize>(bs: &[u8]) -> [u32; 8]
 }
 
 // All 256 numbers as 32 D bytes.
-pub fn pack_eights<const D: usize, C: Coefficients>(f: &C, out: &mut [u8])
+pub fn pack_eights<const D: usize, W: Word>(f: &[W; 256], out: &mut [u8])
     requires { (0 < D) × ((D ≤ 24) × (length out.old ≡ 32 * D)) }
-    ensures { out.new ≡ pack D (C.Coefficients.numbers f.now) }
+    ensures { out.new ≡ pack D (W.numbers f.now) }
 {
     for g in 0..32 {
-        let x = f.eight(g);
+        let x = eight(f, g);
         pack_eight::<D>(&x, &mut out[D * g..D * g + D]);
     }
 }
 
 // All 256 numbers out of 32 D bytes.
-pub fn unpack_eights<const D: usize, C: Coefficients>(bs: &[u8], f: &mut C)
-    requires { (0 < D) × ((D ≤ 24) × ((D ≤ C.Coefficients.room) × (length bs.now ≡ 32 * D))) }
-    ensures { C.Coefficients.numbers f.new ≡ unpack D 256 bs.now }
+pub fn unpack_eights<const D: usize, W: Word>(bs: &[u8], f: &mut [W; 256])
+    requires { (0 < D) × ((D ≤ 24) × ((D ≤ W.bits) × (length bs.now ≡ 32 * D))) }
+    ensures { W.numbers f.new ≡ unpack D 256 bs.now }
 {
     for g in 0..32 {
         let x = unpack_eight::<D>(&bs[D * g..D * g + D]);
-        f.set_eight(g, &x);
+        set_eight(f, g, &x);
     }
 }

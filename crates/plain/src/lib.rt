@@ -8,30 +8,13 @@ ghost use Rattle.plain.specs.Counting.{counted, step_of, count_from, plain, Stuc
 ghost use Rattle.plain.specs.Fairness.{plain_fair};
 
 use hash::in_turn::InTurn;
-use hash::{Digest, FourReaders, Hash, Reader, Xof};
+use hash::{Absorb, Digest, FourReaders, Hash, Reader, Xof};
 
 // The total and the bytes of the part, modulo 256.
 fn added(total: u8, part: &[u8]) -> u8
     ensures { result ≡ (total + sum part.now) % 256 }
 {
-    let mut t = total;
-    for b in part {
-        t = t.wrapping_add(*b);
-    }
-    t
-}
-
-// Fills `out` from `next` on, and says what comes after it.
-fn fill(next: u8, step: u8, out: &mut [u8]) -> u8
-    ensures bytes { out.new ≡ table (length out.old) (counted next step) }
-    ensures after { result ≡ counted next step (length out.old) }
-{
-    let mut at = next;
-    for x in out.iter_mut() {
-        *x = at;
-        at = at.wrapping_add(step);
-    }
-    at
+    part.iter().fold(total, |t, b| t.wrapping_add(*b))
 }
 
 // A total that is counted on from, unless it is 255.
@@ -52,8 +35,12 @@ fn count_from(total: u8) -> Count
 impl Reader for Count {
     ghost rest = { λ s. counted s.next s.step };
 
+    #[tactic(auto, using(algebra::proofs::Tables::is_table))]
     fn squeeze(&mut self, out: &mut [u8]) {
-        self.next = fill(self.next, self.step, out);
+        for x in out.iter_mut() {
+            *x = self.next;
+            self.next = self.next.wrapping_add(self.step);
+        }
     }
 }
 
@@ -63,46 +50,26 @@ pub struct Sum {
     total: u8,
 }
 
-impl Xof for Sum {
-    type Output = Count;
-
+impl Absorb for Sum {
     ghost stream = { λ s m. count_from (s.total + sum m) };
 
     fn absorb(&mut self, part: &[u8]) {
         self.total = added(self.total, part);
     }
+}
+
+impl Xof for Sum {
+    type Output = Count;
 
     fn finish(self) -> Count {
         count_from(self.total)
     }
 }
 
-impl Digest<32> for Sum {
-    ghost digest = { λ s m. table 32 (count_from (s.total + sum m)) };
-
-    fn absorb(&mut self, part: &[u8]) {
-        self.total = added(self.total, part);
-    }
-
-    fn finish(self) -> [u8; 32] {
-        let count = count_from(self.total);
-        let mut out = [0; 32];
-        let _next = fill(count.next, count.step, &mut out);
-        out
-    }
-}
-
-impl Digest<64> for Sum {
-    ghost digest = { λ s m. table 64 (count_from (s.total + sum m)) };
-
-    fn absorb(&mut self, part: &[u8]) {
-        self.total = added(self.total, part);
-    }
-
-    fn finish(self) -> [u8; 64] {
-        let count = count_from(self.total);
-        let mut out = [0; 64];
-        let _next = fill(count.next, count.step, &mut out);
+impl<const N: usize> Digest<N> for Sum {
+    fn finish(self) -> [u8; N] {
+        let mut out = [0; N];
+        count_from(self.total).squeeze(&mut out);
         out
     }
 }

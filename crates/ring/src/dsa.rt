@@ -1,54 +1,45 @@
 // ML-DSA: polynomials of 256 numbers modulo 8380417, one of 32 bits each.
 ghost use Rattle.std.specs.Prelude.{◌≡◌, T};
+ghost use Rattle.std.proofs.Common.{lit<, lit≤};
 ghost use Rattle.standards.specs.Lists.{all_below};
 ghost use Rattle.standards.specs.MlDsaParts.{ntt, ntt_inv, multiply_ntt};
-ghost use Rattle.standards.specs.Ring.{add_p, sub_p};
+ghost use Rattle.standards.specs.Ring.{add_p};
+ghost use Rattle.algebra.proofs.LayeredTransforms.{dsa_forward_layers, dsa_inverse_layers};
 
-pub mod poly;
 mod tables;
 
-use crate::pointwise;
-use crate::pointwise::scale;
-use crate::transform::{forward, inverse};
+use crate::number::Modular;
+use crate::transform::Transform;
 use tables::zetas;
 
-// NTT
-pub fn ntt(f: &mut [u32; 256])
-    requires { T (all_below 8380417 f.old) }
-    ensures value { f.new ≡ ntt f.old }
-    ensures below { T (all_below 8380417 f.new) }
-{
-    forward(f, zetas(), 8);
-}
+impl Transform for u32 {
+    ghost root = { 1753 };
 
-// The inverse of NTT
-pub fn ntt_inverse(f: &mut [u32; 256])
-    requires { T (all_below 8380417 f.old) }
-    ensures value { f.new ≡ ntt_inv f.old }
-    ensures below { T (all_below 8380417 f.new) }
-{
-    inverse(f, zetas(), 8);
-    scale(f, 8347681);
-}
+    ghost LAYERS = { 8 };
 
-// f := f + g
-pub fn add(f: &mut [u32; 256], g: &[u32; 256])
-    requires first { T (all_below 8380417 f.old) }
-    requires second { T (all_below 8380417 g.now) }
-    ensures value { f.new ≡ add_p 8380417 f.old g.now }
-    ensures below { T (all_below 8380417 f.new) }
-{
-    pointwise::add(f, g);
-}
+    ghost last = { 8347681 };
 
-// f := f - g
-pub fn sub(f: &mut [u32; 256], g: &[u32; 256])
-    requires first { T (all_below 8380417 f.old) }
-    requires second { T (all_below 8380417 g.now) }
-    ensures value { f.new ≡ sub_p 8380417 f.old g.now }
-    ensures below { T (all_below 8380417 f.new) }
-{
-    pointwise::sub(f, g);
+    ghost ntt = { ntt };
+
+    ghost ntt_inv = { ntt_inv };
+
+    ghost few = { lit≤ tt };
+
+    ghost last_below = { lit< tt };
+
+    ghost forward = { dsa_forward_layers };
+
+    ghost inverse = { dsa_inverse_layers };
+
+    const LAYERS: usize = 8;
+
+    fn zetas() -> &'static [u32] {
+        zetas()
+    }
+
+    fn last_factor() -> u32 {
+        8347681
+    }
 }
 
 // MultiplyNTT: f := f g, number by number
@@ -58,7 +49,9 @@ pub fn multiply_ntt(f: &mut [u32; 256], g: &[u32; 256])
     ensures value { f.new ≡ multiply_ntt f.old g.now }
     ensures below { T (all_below 8380417 f.new) }
 {
-    pointwise::multiply(f, g);
+    for i in 0..256 {
+        f[i] = f[i].mul_mod(g[i]);
+    }
 }
 
 // out := f g + out, for sums of products
@@ -69,5 +62,7 @@ pub fn multiply_add(out: &mut [u32; 256], f: &[u32; 256], g: &[u32; 256])
     ensures value { out.new ≡ add_p 8380417 (multiply_ntt f.now g.now) out.old }
     ensures below { T (all_below 8380417 out.new) }
 {
-    pointwise::multiply_add(out, f, g);
+    for i in 0..256 {
+        out[i] = f[i].mul_mod(g[i]).add_mod(out[i]);
+    }
 }

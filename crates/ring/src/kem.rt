@@ -1,55 +1,45 @@
 // ML-KEM: polynomials of 256 numbers modulo 3329, one of 16 bits each.
 ghost use Rattle.std.specs.Prelude.{◌≡◌, ◌+◌, ◌*◌, ◌%◌, ◌<◌, T};
+ghost use Rattle.std.proofs.Common.{lit<, lit≤};
 ghost use Rattle.standards.specs.Lists.{at, all_below};
 ghost use Rattle.standards.specs.MlKemParts.{ntt, ntt_inv, multiply_ntts, multiply_ntts_at};
-ghost use Rattle.standards.specs.Ring.{add_p, sub_p};
+ghost use Rattle.standards.specs.Ring.{add_p};
+ghost use Rattle.algebra.proofs.LayeredTransforms.{kem_forward_layers, kem_inverse_layers};
 
-pub mod poly;
 mod tables;
 
 use crate::number::Modular;
-use crate::pointwise;
-use crate::pointwise::scale;
-use crate::transform::{forward, inverse};
+use crate::transform::Transform;
 use tables::{gammas, zetas};
 
-// NTT
-pub fn ntt(f: &mut [u16; 256])
-    requires { T (all_below 3329 f.old) }
-    ensures value { f.new ≡ ntt f.old }
-    ensures below { T (all_below 3329 f.new) }
-{
-    forward(f, zetas(), 7);
-}
+impl Transform for u16 {
+    ghost root = { 17 };
 
-// The inverse of NTT
-pub fn ntt_inverse(f: &mut [u16; 256])
-    requires { T (all_below 3329 f.old) }
-    ensures value { f.new ≡ ntt_inv f.old }
-    ensures below { T (all_below 3329 f.new) }
-{
-    inverse(f, zetas(), 7);
-    scale(f, 3303);
-}
+    ghost LAYERS = { 7 };
 
-// f := f + g
-pub fn add(f: &mut [u16; 256], g: &[u16; 256])
-    requires first { T (all_below 3329 f.old) }
-    requires second { T (all_below 3329 g.now) }
-    ensures value { f.new ≡ add_p 3329 f.old g.now }
-    ensures below { T (all_below 3329 f.new) }
-{
-    pointwise::add(f, g);
-}
+    ghost last = { 3303 };
 
-// f := f - g
-pub fn sub(f: &mut [u16; 256], g: &[u16; 256])
-    requires first { T (all_below 3329 f.old) }
-    requires second { T (all_below 3329 g.now) }
-    ensures value { f.new ≡ sub_p 3329 f.old g.now }
-    ensures below { T (all_below 3329 f.new) }
-{
-    pointwise::sub(f, g);
+    ghost ntt = { ntt };
+
+    ghost ntt_inv = { ntt_inv };
+
+    ghost few = { lit≤ tt };
+
+    ghost last_below = { lit< tt };
+
+    ghost forward = { kem_forward_layers };
+
+    ghost inverse = { kem_inverse_layers };
+
+    const LAYERS: usize = 7;
+
+    fn zetas() -> &'static [u16] {
+        zetas()
+    }
+
+    fn last_factor() -> u16 {
+        3303
+    }
 }
 
 // BaseCaseMultiply: the product of a0 + a1 x and b0 + b1 x where x * x is gamma. A sum of two products is below 2^25.

@@ -6,5 +6,6 @@ pub mod dsa;
 pub mod kem;
 mod layer;
 pub mod number;
-mod pointwise;
-mod transform;
+pub mod pointwise;
+pub mod poly;
+pub mod transform;

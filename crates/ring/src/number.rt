@@ -1,26 +1,31 @@
 // Numbers modulo q, each in one machine word and below q: 3329 in `u16` for ML-KEM, 8380417 in `u32` for ML-DSA.
 // All that follows is written once over this trait. A faster way of reducing changes nothing but the bodies here.
 ghost use Rattle.std.specs.Prelude.{◌≡◌, ℕ, ◌<◌};
+ghost use Rattle.standards.specs.Ring.{zero_p};
 ghost use Rattle.algebra.specs.Modular.{add_m, sub_m, mul_m};
 ghost use Rattle.std.proofs.Common.{lit<};
 
-pub trait Modular: Copy {
-    // the modulus, and the number that a word stands for
+use words::Word;
+
+pub trait Modular: Word {
+    // the modulus
     ghost q: { ℕ };
 
-    ghost value: { Self → ℕ };
-
     fn add_mod(self, other: Self) -> Self
-        requires { (value self < q) × (value other < q) }
-        ensures { value result ≡ add_m q (value self) (value other) };
+        requires { (Self.value self < q) × (Self.value other < q) }
+        ensures { Self.value result ≡ add_m q (Self.value self) (Self.value other) };
 
     fn sub_mod(self, other: Self) -> Self
-        requires { (value self < q) × (value other < q) }
-        ensures { value result ≡ sub_m q (value self) (value other) };
+        requires { (Self.value self < q) × (Self.value other < q) }
+        ensures { Self.value result ≡ sub_m q (Self.value self) (Self.value other) };
 
     fn mul_mod(self, other: Self) -> Self
-        requires { (value self < q) × (value other < q) }
-        ensures { value result ≡ mul_m q (value self) (value other) };
+        requires { (Self.value self < q) × (Self.value other < q) }
+        ensures { Self.value result ≡ mul_m q (Self.value self) (Self.value other) };
+
+    // The polynomial 0.
+    fn zero() -> [Self; 256]
+        ensures { Self.numbers result ≡ zero_p };
 
     ghost positive: { 0 < q };
 }
@@ -29,9 +34,11 @@ pub trait Modular: Copy {
 impl Modular for u16 {
     ghost q = { 3329 };
 
-    ghost value = { λ x. x };
-
     ghost positive = { lit< tt };
+
+    fn zero() -> [u16; 256] {
+        [0u16; 256]
+    }
 
     fn add_mod(self, other: u16) -> u16 {
         (self + other) % 3329
@@ -50,9 +57,11 @@ impl Modular for u16 {
 impl Modular for u32 {
     ghost q = { 8380417 };
 
-    ghost value = { λ x. x };
-
     ghost positive = { lit< tt };
+
+    fn zero() -> [u32; 256] {
+        [0u32; 256]
+    }
 
     fn add_mod(self, other: u32) -> u32 {
         (self + other) % 8380417

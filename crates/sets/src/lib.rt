@@ -1,10 +1,12 @@
 // Parameter sets by number, and refusals by number.
 #![tactic(auto)]
 
-ghost use Rattle.std.specs.Prelude.{◌≡◌, if◌then◌else◌, MatchResult};
+ghost use Rattle.std.specs.Prelude.{◌≡◌, ◌-◌, if◌then◌else◌, MatchResult, slice_get};
 ghost use Rattle.standards.specs.Calls.{is_set, kem_of, dsa_of};
-ghost use Rattle.sets.specs.Sets.{kem_numbers, KemFits, dsa_numbers, DsaFits, number_of, verdict_of};
+ghost use Rattle.sets.specs.Sets.{kem_numbers, dsa_numbers, number_of, verdict_of, GivesSet};
 
+pub mod dsa_sizes;
+pub mod kem_sizes;
 pub mod types;
 
 use types::{DsaSet, KemSet, Refusal};
@@ -35,15 +37,14 @@ const KEM_SETS: [KemSet; 3] = [
 ];
 
 // The set of ML-KEM with a number from 1 to 3.
-pub fn kem_set(n: u8) -> Result<KemSet, Refusal>
-    ensures set { MatchResult result (λ p. kem_numbers p ≡ kem_of n) (λ e. number_of e ≡ 1) }
-    ensures fits { MatchResult result (λ p. KemFits p) (λ e. number_of e ≡ 1) }
-    ensures verdict { verdict_of result ≡ (if is_set n then 0 else 1) }
-{
-    if n == 0 || n > 3 {
-        return Err(Refusal::NoSet);
+impl TryFrom<u8> for KemSet {
+    type Error = Refusal;
+
+    ghost try_from_gives = { λ n r. GivesSet (λ p. kem_numbers p ≡ kem_of n) n r };
+
+    fn try_from(n: u8) -> Result<KemSet, Refusal> {
+        numbered(&KEM_SETS, n)
     }
-    Ok(KEM_SETS[n as usize - 1])
 }
 
 // ML-DSA-44, -65 and -87.
@@ -81,28 +82,32 @@ const DSA_SETS: [DsaSet; 3] = [
 ];
 
 // The set of ML-DSA with a number from 1 to 3.
-pub fn dsa_set(n: u8) -> Result<DsaSet, Refusal>
-    ensures set { MatchResult result (λ p. dsa_numbers p ≡ dsa_of n) (λ e. number_of e ≡ 1) }
-    ensures fits { MatchResult result (λ p. DsaFits p) (λ e. number_of e ≡ 1) }
-    ensures verdict { verdict_of result ≡ (if is_set n then 0 else 1) }
-{
-    if n == 0 || n > 3 {
-        return Err(Refusal::NoSet);
+impl TryFrom<u8> for DsaSet {
+    type Error = Refusal;
+
+    ghost try_from_gives = { λ n r. GivesSet (λ p. dsa_numbers p ≡ dsa_of n) n r };
+
+    fn try_from(n: u8) -> Result<DsaSet, Refusal> {
+        numbered(&DSA_SETS, n)
     }
-    Ok(DSA_SETS[n as usize - 1])
+}
+
+// Entry n of a table of sets, counted from 1.
+fn numbered<T: Copy>(sets: &[T; 3], n: u8) -> Result<T, Refusal>
+    ensures { GivesSet (λ p. slice_get sets.now (n - 1) ≡ Some p) n result }
+{
+    match n {
+        1..=3 => Ok(sets[usize::from(n) - 1]),
+        _ => Err(Refusal::NoSet),
+    }
 }
 
 // A refusal's number.
-pub fn number(r: Refusal) -> u32
-    ensures { result ≡ number_of r }
-{
-    match r {
-        Refusal::NoSet => 1,
-        Refusal::Length => 2,
-        Refusal::Key => 3,
-        Refusal::Draw => 4,
-        Refusal::Context => 5,
-        Refusal::Attempts => 6,
+impl From<Refusal> for u32 {
+    ghost from_gives = { λ r n. n ≡ number_of r };
+
+    fn from(r: Refusal) -> u32 {
+        r as u32
     }
 }
 
@@ -111,7 +116,7 @@ pub fn verdict(r: Result<(), Refusal>) -> u32
     ensures { result ≡ verdict_of r }
 {
     match r {
-        Ok(_) => 0,
-        Err(e) => number(e),
+        Ok(()) => 0,
+        Err(e) => u32::from(e),
     }
 }

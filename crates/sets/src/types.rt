@@ -1,4 +1,8 @@
 // The numbers of a parameter set, and why a call refuses.
+ghost use Rattle.std.proofs.Props.{props};
+ghost use Rattle.sets.specs.Shapes.{KemShape, DsaShape, eta_prop, bits_prop, gamma2_prop};
+
+// The numbers of any set fit the code's arrays and widths: `fits` is proved wherever a set is made.
 #[derive(Clone, Copy)]
 pub struct KemSet {
     pub k: usize,
@@ -6,6 +10,7 @@ pub struct KemSet {
     pub eta2: usize,
     pub du: usize,
     pub dv: usize,
+    pub ghost fits: { KemShape k eta1 eta2 du dv },
 }
 
 // gamma1 is 2^gamma1_bits.
@@ -19,14 +24,16 @@ pub struct DsaSet {
     pub gamma1_bits: usize,
     pub gamma2: u32,
     pub omega: usize,
+    pub ghost fits: { DsaShape k l eta tau lambda gamma1_bits gamma2 omega } by { Prim.hlevel (props, eta_prop, bits_prop, gamma2_prop) },
 }
 
-#[derive(Clone, Copy, Debug)]
+// The numbers are those of the standards' calls.
+#[derive(Clone, Copy, PartialEq, Eq, Debug)]
 pub enum Refusal {
-    NoSet,
-    Length,
-    Key,
-    Draw,
-    Context,
-    Attempts,
+    NoSet = 1,
+    Length = 2,
+    Key = 3,
+    Draw = 4,
+    Context = 5,
+    Attempts = 6,
 }

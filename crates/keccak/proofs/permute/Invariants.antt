@@ -1,5 +1,4 @@
-use mathlib.Core.Path.{◌≡◌}
-use lib.ListN.{drop}
+use Rattle.std.proofs.Common.{◌≡◌, drop}
 use Rattle.standards.specs.Fips202.{rounds, keccak_f}
 use Rattle.fips202_laws.proofs.Constants.{constants}
 use Rattle.keccak.proofs.permute.Given as goal

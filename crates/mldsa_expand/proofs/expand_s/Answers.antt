@@ -1,9 +1,8 @@
 use Rattle.std.proofs.Common.{◌≡◌, ℕ, ◌+◌, ◌/◌, ◌%◌, ◌&&◌, eqb, List, [], ◌∷◌, ◌++◌, length, sym, ap, ◌∙◌, ap₂, arith}
-use Rattle.standards.specs.Lists.{tables, all_full}
 use Rattle.standards.specs.MlDsaParts.{expand_s, rej_bounded_poly}
 use Rattle.algebra.proofs.RowArrays.{full_none, full_more}
 use Rattle.mldsa_laws.specs.Steps.{padded}
-use Rattle.mldsa_laws.proofs.RowLoops.{rows_start, rows_next, rows_end, rows-small}
+use Rattle.mldsa_laws.proofs.RowLoops.{rows_start, rows_next}
 use Rattle.mldsa_expand.proofs.expand_s.Goals as goal
 
 pub loop-i-init : goal.loop-i-init
@@ -20,13 +19,3 @@ loop-i-preserved g c =
       rows_next 8380417 _ c.args.s.now c.loop-i.i c.loop-i.s _ (omega arith) (c.rej_bounded_poly-full.ensures.row ∙ ap padded is) c.rej_bounded_poly-full.ensures.below c.loop-i.invariant.0,
       ap₂ ◌&&◌ c.loop-i.invariant.1 (c.rej_bounded_poly-full.ensures.full ∙ ap (λ x. eqb (length x) 256) is) ∙ sym (full_more c.loop-i.i f),
     )
-
-pub returns : goal.returns
-returns g c =
-    let f : ℕ → List ℕ = λ i. expand_s g.H.Hash.hashes c.args.eta c.args.rho.now (c.args.first + i) in
-    let end : c.loop-i.i ≡ length c.args.s.now = omega arith in
-    record {
-      drawn = c.loop-i.invariant.1 ∙ ap (λ n. all_full (tables n f)) end;
-      value = rows_end 8380417 _ c.args.s.now c.loop-i.i c.loop-i.s (omega arith) c.loop-i.invariant.0;
-      below = rows-small 8380417 _ c.args.s.now c.loop-i.i c.loop-i.s (omega arith) c.loop-i.invariant.0;
-    }

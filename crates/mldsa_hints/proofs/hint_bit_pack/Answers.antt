@@ -8,10 +8,6 @@ pub pack_row-n-requires : goal.pack_row-n-requires
 pack_row-n-requires c =
     omega (arith, rows_room c.args.hs.now c.args.p.omega c.loop-i.i c.loop-i.n c.loop-i.out (omega arith) (omega arith) c.requires.few c.loop-i.invariant.1)
 
-pub overflow_cast-out : goal.overflow_cast-out
-overflow_cast-out c =
-    omega (arith, c.requires.fits.omega_few, c.pack_row-n.ensures.count, rows_room c.args.hs.now c.args.p.omega c.loop-i.i c.loop-i.n c.loop-i.out (omega arith) (omega arith) c.requires.few c.loop-i.invariant.1)
-
 pub loop-i-preserved : goal.loop-i-preserved
 loop-i-preserved c =
     let om = c.args.p.omega in

@@ -1,4 +1,4 @@
-use Rattle.std.proofs.Common.{◌+◌, ◌≤◌, ◌++◌, length, take, sym, ap, ◌∙◌, arith}
+use Rattle.std.proofs.Common.{◌≤◌, ◌++◌, length, take, ap, ◌∙◌, arith}
 use Rattle.std.proofs.lemmas.List.{length-append, length-take-le}
 use Rattle.standards.specs.MlDsaParts.{places}
 use Rattle.mldsa_hints.proofs.PlacesOut.{row_next, row_room, row_last, drop-later}
@@ -18,11 +18,10 @@ loop-i-preserved c = (
   row_next c.args.row.now c.loop-i.out c.put_place-m.new.out c.loop-i.i c.loop-i.m c.put_place-m.result _ (omega arith) c.put_place-m.ensures.front c.loop-i.invariant.3,
 )
 
-pub returns : goal.returns
-returns c =
-    let is = row_last c.args.row.now c.loop-i.out c.loop-i.i c.loop-i.m _ (omega arith) c.loop-i.invariant.3 in
-    record {
-      count = sym (length-take-le c.loop-i.m c.loop-i.out c.loop-i.invariant.1) ∙ (ap length is ∙ (length-append (take c.args.n c.args.out.now) (places 0 c.args.row.now) ∙ ap (λ k. k + length (places 0 c.args.row.now)) (length-take-le c.args.n c.args.out.now (omega arith))));
-      front = is;
-      back = c.loop-i.invariant.2;
-    }
+pub returns-clause-count : goal.returns-clause-count
+returns-clause-count c =
+    let front = ap length (row_last c.args.row.now c.loop-i.out c.loop-i.i c.loop-i.m _ (omega arith) c.loop-i.invariant.3) in
+    omega (arith, front, length-take-le c.loop-i.m c.loop-i.out c.loop-i.invariant.1, length-append (take c.args.n c.args.out.now) (places 0 c.args.row.now), length-take-le c.args.n c.args.out.now (omega arith))
+
+pub returns-clause-front : goal.returns-clause-front
+returns-clause-front c = row_last c.args.row.now c.loop-i.out c.loop-i.i c.loop-i.m _ (omega arith) c.loop-i.invariant.3

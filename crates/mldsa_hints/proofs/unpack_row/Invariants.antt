@@ -1,11 +1,7 @@
-use Rattle.std.proofs.Common.{◌≡◌, ◌≤◌, length}
+use Rattle.std.proofs.Common.{◌≡◌, length, drop}
 use Rattle.standards.specs.Ring.{zero_p}
-use Rattle.standards.specs.MlDsa.{rising, marked}
-use Rattle.mldsa_hints.specs.Rows.{between}
-use Rattle.mldsa_hints.proofs.PlacesIn.{rises_from}
+use Rattle.standards.specs.MlDsa.{marked}
 use Rattle.mldsa_hints.proofs.unpack_row.Given as goal
 
-abbrev pub invariant-loop-j : goal.invariant-loop-j
-invariant-loop-j l =
-    (length l.row ≡ 256) × (l.least ≤ 256) × (rises_from l.least (between l.j l.end l.part) ≡ rising (between l.begin l.end l.part)) ×
-    (marked (between l.j l.end l.part) l.row ≡ marked (between l.begin l.end l.part) zero_p)
+abbrev pub invariant-loop-x : goal.invariant-loop-x
+invariant-loop-x l = (length l.row ≡ 256) × (marked (drop l.x-index l.x-items) l.row ≡ marked l.x-items zero_p)

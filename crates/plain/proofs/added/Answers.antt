@@ -1,20 +1,13 @@
-use Rattle.std.proofs.Common.{◌+◌, ◌%◌, get_or, take, sum, ap, ◌∙◌, arith}
-use native.Mathlib.Nat.{mod-add-mod}
-use Rattle.std.proofs.lemmas.List.{take_all}
-use Rattle.std.proofs.lemmas.List.Sums.{sum_by_more}
+use Rattle.std.proofs.Common.{◌≡◌, ℕ, ◌+◌, ◌%◌, ◌<◌, List, [], ◌∷◌, sum, fold, ◌∙◌, rules, arith}
+use Rattle.std.proofs.lemmas.Grind.{common_steps}
 use Rattle.plain.proofs.added.Goals as goal
 
-pub loop-b-init : goal.loop-b-init
-loop-b-init c = omega arith
-
-pub loop-b-preserved : goal.loop-b-preserved
-loop-b-preserved c =
-    let part = c.args.part.now in
-    let i = c.loop-b.b-index in
-    let t = c.args.total in
-    let b = get_or part i 0 in
-    ap (λ k. (k + b) % 256) c.loop-b.invariant ∙ (mod-add-mod (t + sum (take i part)) 256 b ∙
-    ap (λ k. k % 256) {x = t + sum (take i part) + b} {y = t + sum (take (i + 1) part)} (omega (arith, sum_by_more (λ x. x) part i 0 (omega arith))))
+-- each sum is cut to a byte at once, or all of them at the end
+wrapped_sum : (total : ℕ) (xs : List ℕ) → total < 256 → fold (λ t b. (t + b) % 256) total xs ≡ (total + sum xs) % 256
+wrapped_sum total [] h = omega arith
+wrapped_sum total (x ∷ xs) h = grind (arith, common_steps, wrapped_sum ((total + x) % 256) xs (omega arith))
 
 pub returns : goal.returns
-returns c = c.loop-b.invariant ∙ ap (λ xs. (c.args.total + sum xs) % 256) (take_all c.loop-b.b-index c.args.part.now (omega arith))
+returns c =
+    let mirrored : c.fold.result ≡ fold (λ t b. (t + b) % 256) c.args.total c.args.part.now = search rules in
+    mirrored ∙ wrapped_sum c.args.total c.args.part.now (omega arith)

@@ -8,8 +8,8 @@ use Rattle.kpke.proofs.rows.encode_rows.Goals as goal
 pub loop-i-init : goal.loop-i-init
 loop-i-init c = ap (λ n. take n c.args.out.now) {x = 32 * c.args.d * 0} {y = 0} (omega arith) ∙ sym (joined_none _)
 
-pub slice_bounds-pack_u16-end : goal.slice_bounds-pack_u16-end
-slice_bounds-pack_u16-end c = omega (arith, row_ends_lem (32 * c.args.d) c.loop-i.i c.args.k (omega arith))
+pub slice_bounds-pack-end : goal.slice_bounds-pack-end
+slice_bounds-pack-end c = omega (arith, row_ends_lem (32 * c.args.d) c.loop-i.i c.args.k (omega arith))
 
 pub loop-i-preserved : goal.loop-i-preserved
 loop-i-preserved c =
@@ -17,7 +17,7 @@ loop-i-preserved c =
     let i = c.loop-i.i in
     let f : ℕ → List ℕ = λ j. pack c.args.d (row_at c.args.v.now j) in
     let room : w * i + w ≤ length c.loop-i.out = omega (arith, row_ends_lem w i c.args.k (omega arith)) in
-    put_row w i (w * i + w - w * i) f c.loop-i.out c.pack_u16.new.out (omega arith) (omega arith) c.pack_u16.ensures c.loop-i.invariant
+    put_row w i (w * i + w - w * i) f c.loop-i.out c.pack.new.out (omega arith) (omega arith) c.pack.ensures c.loop-i.invariant
 
 pub returns : goal.returns
 returns c =

@@ -1,11 +1,7 @@
-use Rattle.std.proofs.Common.{◌+◌, ◌&&◌, ltb, drop, ap, ◌∙◌, arith, lit<}
+use Rattle.std.proofs.Common.{◌+◌, ◌&&◌, ltb, drop, ap, ◌∙◌, arith}
 use Rattle.standards.specs.Ring.{norm}
-use Rattle.algebra.proofs.Tables.{at_small}
 use Rattle.mldsa_laws.proofs.NormTests.{norm_next, norm_last}
 use Rattle.mldsa_parts.proofs.norms.norm_below.Goals as goal
-
-pub magnitude-requires : goal.magnitude-requires
-magnitude-requires c = at_small 8380417 c.args.f.now (lit< tt) c.requires.below c.loop-i.i
 
 pub loop-i-preserved : goal.loop-i-preserved
 loop-i-preserved c =

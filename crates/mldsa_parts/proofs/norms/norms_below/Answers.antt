@@ -3,9 +3,6 @@ use Rattle.standards.specs.Ring.{norms}
 use Rattle.mldsa_laws.proofs.NormTests.{norms_next, norms_last}
 use Rattle.mldsa_parts.proofs.norms.norms_below.Goals as goal
 
-pub norm_below-small-requires : goal.norm_below-small-requires
-norm_below-small-requires c = record { some = c.requires.some; below = c.requires.below c.loop-i.i (omega arith) }
-
 pub loop-i-preserved : goal.loop-i-preserved
 loop-i-preserved c =
     let v = c.args.v.now in

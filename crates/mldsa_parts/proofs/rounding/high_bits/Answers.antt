@@ -1,19 +1,8 @@
-use Rattle.std.proofs.Common.{T, sym, ap, ◌∙◌, subst, arith, lit<}
-use Rattle.standards.specs.Lists.{at, all_below}
+use Rattle.std.proofs.Common.{ap, ◌∙◌, arith}
 use Rattle.standards.specs.MlDsaParts.{high_bits}
-use Rattle.algebra.proofs.Tables.{at_small, below_table}
-use Rattle.algebra.proofs.Words.{filled_all, filled_below, filled_set}
-use Rattle.mldsa_parts.proofs.Numbers.{high_below}
+use Rattle.mldsa_parts.proofs.Numbers.{number_put}
 use Rattle.mldsa_parts.proofs.rounding.high_bits.Goals as goal
-
-pub high_number-requires : goal.high_number-requires
-high_number-requires c = record { set = c.requires.set; below = filled_below 8380417 _ c.args.f.now c.loop-i.i c.loop-i.f (lit< tt) c.requires.below c.loop-i.invariant c.loop-i.i (omega arith) }
 
 pub loop-i-preserved : goal.loop-i-preserved
 loop-i-preserved c =
-    filled_set _ _ c.loop-i.i _ _ (omega arith) (c.high_number.ensures ∙ ap (high_bits c.args.gamma2) (c.loop-i.invariant.rest c.loop-i.i (omega arith))) c.loop-i.invariant
-
-pub returns : goal.returns
-returns c =
-    let e = filled_all _ c.args.f.now c.loop-i.f c.loop-i.i (omega arith) c.loop-i.invariant in
-    record { value = e; below = subst (λ r. T (all_below 8380417 r)) (sym e) (below_table 8380417 256 _ (λ k _. high_below c.args.gamma2 (at c.args.f.now k) c.requires.set (at_small 8380417 c.args.f.now (lit< tt) c.requires.below k))) }
+    number_put 8380417 _ _ c.loop-i.i _ _ (omega arith) (λ e. c.high_number.ensures.value ∙ ap (high_bits c.args.gamma2.value) e) c.high_number.ensures.below c.loop-i.invariant

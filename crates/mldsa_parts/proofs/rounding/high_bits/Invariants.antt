@@ -1,7 +1,8 @@
-use Rattle.standards.specs.Lists.{at}
+use Rattle.std.proofs.Common.{T}
+use Rattle.standards.specs.Lists.{at, all_below}
 use Rattle.standards.specs.MlDsaParts.{high_bits}
 use Rattle.algebra.proofs.Words.{Filled}
 use Rattle.mldsa_parts.proofs.rounding.high_bits.Given as goal
 
 abbrev pub invariant-loop-i : goal.invariant-loop-i
-invariant-loop-i l = Filled (λ k. high_bits l.gamma2 (at l.initial.f k)) l.initial.f l.i l.f
+invariant-loop-i l = Filled (λ k. high_bits l.gamma2.value (at l.initial.f k)) l.initial.f l.i l.f × T (all_below 8380417 l.f)

@@ -1,21 +1,13 @@
-use Rattle.std.proofs.Common.{T, sym, ap, ◌∙◌, subst, arith, lit<}
-use Rattle.standards.specs.Lists.{at, all_below}
+use Rattle.std.proofs.Common.{ap, ◌∙◌, arith}
+use Rattle.standards.specs.Lists.{at}
 use Rattle.standards.specs.MlDsaParts.{use_hint}
-use Rattle.algebra.proofs.Tables.{at_small, below_table}
-use Rattle.algebra.proofs.Words.{filled_all, filled_below, filled_set}
-use Rattle.mldsa_parts.proofs.Numbers.{use_below}
+use Rattle.algebra.proofs.Words.{filled_all}
+use Rattle.mldsa_parts.proofs.Numbers.{number_put}
 use Rattle.mldsa_parts.proofs.rounding.use_hint.Goals as goal
-
-pub use_hint_number-requires : goal.use_hint_number-requires
-use_hint_number-requires c =
-    record { set = c.requires.set; below = filled_below 8380417 _ c.args.f.now c.loop-i.i c.loop-i.f (lit< tt) c.requires.below c.loop-i.invariant c.loop-i.i (omega arith) }
 
 pub loop-i-preserved : goal.loop-i-preserved
 loop-i-preserved c =
-    filled_set _ _ c.loop-i.i _ _ (omega arith) (c.use_hint_number.ensures ∙ ap (use_hint c.args.gamma2 (at c.args.h.now c.loop-i.i)) (c.loop-i.invariant.rest c.loop-i.i (omega arith))) c.loop-i.invariant
+    number_put 8380417 _ _ c.loop-i.i _ _ (omega arith) (λ e. c.use_hint_number.ensures.value ∙ ap (use_hint c.args.gamma2.value (at c.args.h.now c.loop-i.i)) e) c.use_hint_number.ensures.below c.loop-i.invariant
 
-pub returns : goal.returns
-returns c =
-    let f = c.args.f.now in
-    let e = filled_all _ f c.loop-i.f c.loop-i.i (omega arith) c.loop-i.invariant in
-    record { value = e; below = subst (λ r. T (all_below 8380417 r)) (sym e) (below_table 8380417 256 _ (λ k _. use_below c.args.gamma2 (at c.args.h.now k) (at f k) c.requires.set (at_small 8380417 f (lit< tt) c.requires.below k))) }
+pub returns-clause-value : goal.returns-clause-value
+returns-clause-value c = filled_all _ c.args.f.now c.loop-i.f c.loop-i.i (omega arith) c.loop-i.invariant.0

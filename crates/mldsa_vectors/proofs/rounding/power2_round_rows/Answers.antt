@@ -1,14 +1,8 @@
-use Rattle.std.proofs.Common.{◌≡◌, T, length, sym, ap, ◌∙◌, subst, arith}
-use Rattle.standards.specs.Lists.{tables, row_at, all_below}
+use Rattle.std.proofs.Common.{T, sym, ap, ◌∙◌, subst, arith}
+use Rattle.standards.specs.Lists.{all_below}
 use Rattle.standards.specs.MlDsaParts.{power2_round1_p, power2_round0_p}
-use Rattle.mldsa_laws.proofs.RowLoops.{rows_start, rows_next, rows_end, rows_waiting, rounded_small}
+use Rattle.mldsa_laws.proofs.RowLoops.{rows_next, rows_waiting, rounded_small}
 use Rattle.mldsa_vectors.proofs.rounding.power2_round_rows.Goals as goal
-
-pub loop-i-init : goal.loop-i-init
-loop-i-init c = (rows_start 8380417 _ c.args.t.now, rows_start 8380417 _ c.args.low.now)
-
-pub power2_round-requires : goal.power2_round-requires
-power2_round-requires c = rows_waiting 8380417 _ c.args.t.now c.loop-i.i c.loop-i.t (omega arith) c.requires.below c.loop-i.invariant.0
 
 pub loop-i-preserved : goal.loop-i-preserved
 loop-i-preserved c =
@@ -19,12 +13,3 @@ loop-i-preserved c =
       rows_next 8380417 _ c.args.low.now c.loop-i.i c.loop-i.low _ (omega arith)
           (c.power2_round.ensures.low ∙ ap power2_round0_p was) c.power2_round.ensures.below c.loop-i.invariant.1,
     )
-
-pub returns : goal.returns
-returns c =
-    let same : length c.args.low.now ≡ length c.args.t.now = c.requires.long in
-    record {
-      high = rows_end 8380417 _ c.args.t.now c.loop-i.i c.loop-i.t (omega arith) c.loop-i.invariant.0;
-      low = rows_end 8380417 _ c.args.low.now c.loop-i.i c.loop-i.low (omega arith) c.loop-i.invariant.1 ∙ ap (λ n. tables n (λ i. power2_round0_p (row_at c.args.t.now i))) same;
-      below = λ j h. c.loop-i.invariant.1.below j (omega arith);
-    }

@@ -10,18 +10,17 @@ use Rattle.mlkem.proofs.Opening.{decaps_is}
 use Rattle.mlkem.proofs.kem.decapsulate.Goals as goal
 
 pub slice_bounds-room-end : goal.slice_bounds-room-end
-slice_bounds-room-end g c = omega (arith, mul-le (32 * c.args.p.du) c.args.p.k 352 4 (omega (arith, c.requires.fits.du_high)) c.requires.fits.few, c.requires.fits.dv_high)
+slice_bounds-room-end g c = omega (arith, mul-le (32 * c.args.p.du) c.args.p.k 352 4 (omega (arith, c.args.p.fits.du_high)) c.args.p.fits.few, c.args.p.fits.dv_high)
 
 pub encrypt-requires : goal.encrypt-requires
 encrypt-requires g c =
     let k = c.args.p.k in
     let dk = c.args.dk.now in
     record {
-      fits = c.requires.fits;
       entries = subst (λ (x : List ℕ). RowsAre (k * k) (entry_at g.H.Hash.hashes k (ek_rho (kem_numbers c.args.p) x)) c.args.a.now) (sym (part_is dk (384 * k) (384 * k + 32))) c.requires.entries;
       below = c.requires.below;
       key = simp (length-take, length-drop) (omega arith);
-      long = room_is (replicate 1568 0) (length c.args.c.now) (omega (arith, mul-le (32 * c.args.p.du) k 352 4 (omega (arith, c.requires.fits.du_high)) c.requires.fits.few, c.requires.fits.dv_high)) ∙ c.requires.long;
+      long = room_is (replicate 1568 0) (length c.args.c.now) (omega (arith, mul-le (32 * c.args.p.du) k 352 4 (omega (arith, c.args.p.fits.du_high)) c.args.p.fits.few, c.args.p.fits.dv_high)) ∙ c.requires.long;
     }
 
 pub returns : goal.returns

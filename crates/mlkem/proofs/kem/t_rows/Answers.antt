@@ -14,7 +14,7 @@ dot-requires g c =
     let k = c.args.p.k in
     let i = c.loop-i.i in
     record {
-      within = (λ j h. omega (arith, along k i j (omega arith) h, square k c.requires.fits.few), omega (arith, c.requires.fits.few));
+      within = (λ j h. omega (arith, along k i j (omega arith) h, square k c.args.p.fits.few), omega (arith, c.args.p.fits.few));
       left = λ j h. c.requires.left (k * i + 1 * j) (along k i j (omega arith) h);
       right = c.requires.right;
     }

@@ -9,6 +9,6 @@ use Rattle.mlkem_parts.proofs.noise.cbd_row.Goals as goal
 
 pub returns : goal.returns
 returns g c =
-    let e = filled_all _ c.unpack_u16.new.f c.loop-i.f c.loop-i.i (omega arith) c.loop-i.invariant ∙
-    (ap (λ f. table 256 (λ k. bits_less g.row.ETA (at f k))) c.unpack_u16.ensures ∙ small_numbers g.row.ETA c.args.bs.now) in
+    let e = filled_all _ c.unpack.new.f c.loop-i.f c.loop-i.i (omega arith) c.loop-i.invariant ∙
+    (ap (λ f. table 256 (λ k. bits_less g.row.ETA (at f k))) c.unpack.ensures ∙ small_numbers g.row.ETA c.args.bs.now) in
     record { value = e; below = subst (λ r. T (all_below 3329 r)) (sym e) (below_table 3329 256 _ (λ k _. mod_below _ 3329 (lit< tt))) }

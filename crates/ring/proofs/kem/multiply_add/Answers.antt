@@ -2,7 +2,7 @@ use Rattle.std.proofs.Common.{◌+◌, ◌*◌, ◌%◌, sym, ◌∙◌, ap₂, 
 use Rattle.standards.specs.MlKemParts.{multiply_ntts_at}
 use Rattle.algebra.proofs.Tables.{at_table, at_small}
 use Rattle.algebra.proofs.Words.{filled_below, filled_pair, filled_all}
-use Rattle.algebra.proofs.Plain.{table_below}
+use Rattle.algebra.proofs.Numbers.{table_below}
 use Rattle.algebra.proofs.BaseCase.{pairs_below}
 use Rattle.ring.proofs.kem.multiply_add.Goals as goal
 

@@ -1,6 +1,6 @@
 use Rattle.std.proofs.Common.{◌+◌, ◌*◌, ◌∙◌, arith, lit<}
 use Rattle.algebra.proofs.Words.{filled_below, filled_pair, filled_all}
-use Rattle.algebra.proofs.Plain.{table_below}
+use Rattle.algebra.proofs.Numbers.{table_below}
 use Rattle.algebra.proofs.BaseCase.{pair_rest, pairs_below}
 use Rattle.ring.proofs.kem.multiply_ntts.Goals as goal
 

@@ -6,5 +6,5 @@ use Rattle.ring.proofs.pointwise.sub.Given as goal
 
 abbrev pub invariant-loop-i : goal.invariant-loop-i
 invariant-loop-i g l =
-    let v = g.F.Modular.value in
+    let v = g.F.Word.value in
     Filled (λ k. sub_m g.F.Modular.q (at (map v l.initial.f) k) (at (map v l.g) k)) (map v l.initial.f) l.i (map v l.f)

@@ -8,7 +8,7 @@ loop-l-init g c = forward_layers_none _ _ _
 
 pub layer-requires : goal.layer-requires
 layer-requires g c =
-    let v = g.F.Modular.value in
+    let v = g.F.Word.value in
     let q = g.F.Modular.q in (
       omega arith,
       (
@@ -21,4 +21,4 @@ layer-requires g c =
     )
 
 pub loop-l-preserved : goal.loop-l-preserved
-loop-l-preserved g c = forward_layers_more _ (map g.F.Modular.value c.args.zetas.now) c.loop-l.l _ _ _ c.loop-l.invariant c.layer.ensures
+loop-l-preserved g c = forward_layers_more _ (map g.F.Word.value c.args.zetas.now) c.loop-l.l _ _ _ c.loop-l.invariant c.layer.ensures

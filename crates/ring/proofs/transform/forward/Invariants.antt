@@ -4,5 +4,5 @@ use Rattle.ring.proofs.transform.forward.Given as goal
 
 abbrev pub invariant-loop-l : goal.invariant-loop-l
 invariant-loop-l g l =
-    let v = g.F.Modular.value in
+    let v = g.F.Word.value in
     map v l.f ≡ forward_layers g.F.Modular.q (map v l.zetas) l.l (map v l.initial.f)

@@ -6,9 +6,9 @@ use Rattle.ring.proofs.transform.inverse.Goals as goal
 pub loop-l-init : goal.loop-l-init
 loop-l-init g c = inverse_layers_none _ _ _ _
 
-pub layer_inverse-requires : goal.layer_inverse-requires
-layer_inverse-requires g c =
-    let v = g.F.Modular.value in
+pub layer-requires : goal.layer-requires
+layer-requires g c =
+    let v = g.F.Word.value in
     let q = g.F.Modular.q in (
       omega arith,
       (
@@ -21,4 +21,4 @@ layer_inverse-requires g c =
     )
 
 pub loop-l-preserved : goal.loop-l-preserved
-loop-l-preserved g c = inverse_layers_more _ (map g.F.Modular.value c.args.zetas.now) c.args.layers c.loop-l.l _ _ _ c.loop-l.invariant c.layer_inverse.ensures
+loop-l-preserved g c = inverse_layers_more _ (map g.F.Word.value c.args.zetas.now) c.args.layers c.loop-l.l _ _ _ c.loop-l.invariant c.layer.ensures

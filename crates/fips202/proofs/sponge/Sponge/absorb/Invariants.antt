@@ -1,10 +1,13 @@
-use Rattle.std.proofs.Common.{◌-◌, ◌≤◌, length, take}
-use Rattle.fips202_laws.specs.Sponges.{Absorbs}
+use Rattle.std.proofs.Common.{◌≡◌, ℕ, List, ◌++◌, length}
+use Rattle.fips202_laws.specs.Sponges.{absorbed_from}
 use Rattle.fips202.proofs.sponge.Sponge.absorb.Given as goal
 
-abbrev pub invariant-loop-done : goal.invariant-loop-done
-invariant-loop-done g l =
-    (l.done ≤ length l.part) × Absorbs g.row.RATE l.initial.self.lanes l.initial.self.place (take l.done l.part) l.self.lanes l.self.place
+-- what is left gives from here what the part gives from where it began
+abbrev pub invariant-loop-rest : goal.invariant-loop-rest
+invariant-loop-rest g l =
+    let was = l.fn.self in
+    (suffix : ℕ) (m : List ℕ) →
+    absorbed_from g.row.RATE suffix l.self.lanes l.self.place (l.rest ++ m) ≡ absorbed_from g.row.RATE suffix was.lanes was.place (l.fn.part ++ m)
 
-abbrev pub decreases-loop-done : goal.decreases-loop-done
-decreases-loop-done g l = length l.initial.part - l.done
+abbrev pub decreases-loop-rest : goal.decreases-loop-rest
+decreases-loop-rest g l = length l.rest

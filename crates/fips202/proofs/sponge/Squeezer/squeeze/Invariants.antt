@@ -7,8 +7,11 @@ use Rattle.fips202.proofs.sponge.Squeezer.squeeze.Given as goal
 -- `done` bytes are written, and the stream has gone on by as many
 abbrev pub invariant-loop-done : goal.invariant-loop-done
 invariant-loop-done g l =
-    let f = read_from g.row.RATE l.initial.self.lanes l.initial.self.place in
-    (l.done ≤ length l.out) × (take l.done l.out ≡ table l.done f) × (read_from g.row.RATE l.self.lanes l.self.place ≡ later l.done f)
+    let f = read_from g.row.RATE l.initial.self.lanes l.initial.self.place in record {
+      within : l.done ≤ length l.out;
+      bytes : take l.done l.out ≡ table l.done f;
+      onward : read_from g.row.RATE l.self.lanes l.self.place ≡ later l.done f;
+    }
 
 abbrev pub decreases-loop-done : goal.decreases-loop-done
 decreases-loop-done g l = length l.initial.out - l.done

@@ -1,0 +1,110 @@
+// What a line is answered.
+ghost use Rattle.std.specs.Prelude.{◌≡◌, IfOk, string_bytes};
+ghost use Rattle.digest.specs.Answers.{Gives, message_of, shown_of, reply_of, answer_of};
+
+use crate::functions::{Function, NoSuchFunction, hashed};
+use hex_digits::{hex_text, read_hex};
+use lines::three_words;
+use std::alloc::{AllocError, Global};
+use std::fmt;
+use std::num::ParseIntError;
+
+// What is wrong with a line.
+#[derive(Clone, Copy)]
+pub enum Problem {
+    Usage,
+    NoFunction,
+    NotHex,
+    NoNumber,
+    Length,
+    NoMemory,
+}
+
+impl fmt::Display for Problem {
+    ghost use Rattle.std.specs.Prelude.{Some};
+    ghost use Rattle.digest.specs.Answers.{text_of};
+
+    ghost output = { λ problem. Some (text_of problem) };
+
+    fn fmt<W: fmt::Write>(&self, f: &mut fmt::Formatter<W>) -> fmt::Result {
+        f.write_str(match self {
+            Problem::Usage => "a line is: FUNCTION MESSAGE BYTES",
+            Problem::NoFunction => "the functions are sha3-256, sha3-512, shake128 and shake256",
+            Problem::NotHex => "the message is not hexadecimal digits, an even number of them",
+            Problem::NoNumber => "the number of bytes is not a number",
+            Problem::Length => "the function does not give that many bytes",
+            Problem::NoMemory => "no memory",
+        })
+    }
+}
+
+impl From<NoSuchFunction> for Problem {
+    ghost use Rattle.digest.specs.declared.answers.Problem.TheVariants.{NoFunction};
+
+    ghost from_gives = { λ _ problem. problem ≡ NoFunction };
+
+    fn from(_error: NoSuchFunction) -> Problem {
+        Problem::NoFunction
+    }
+}
+
+impl From<ParseIntError> for Problem {
+    ghost use Rattle.digest.specs.declared.answers.Problem.TheVariants.{NoNumber};
+
+    ghost from_gives = { λ _ problem. problem ≡ NoNumber };
+
+    fn from(_error: ParseIntError) -> Problem {
+        Problem::NoNumber
+    }
+}
+
+impl From<AllocError> for Problem {
+    ghost use Rattle.digest.specs.declared.answers.Problem.TheVariants.{NoMemory};
+
+    ghost from_gives = { λ _ problem. problem ≡ NoMemory };
+
+    fn from(_error: AllocError) -> Problem {
+        Problem::NoMemory
+    }
+}
+
+// The message that a word writes.
+fn message(heap: Global, word: &str) -> Result<Vec<u8>, Problem>
+    ensures { Gives (λ v. v.items) result (message_of word.now) }
+{
+    if word == "-" {
+        return Ok(Vec::new(heap));
+    }
+    read_hex(heap, word.as_bytes())?.ok_or(Problem::NotHex)
+}
+
+// Bytes as they are printed.
+fn shown(heap: Global, bytes: &[u8]) -> Result<String, AllocError>
+    ensures { IfOk result (λ text. string_bytes text ≡ shown_of bytes.now) }
+{
+    if bytes.is_empty() {
+        String::from_str(heap, "-")
+    } else {
+        hex_text(heap, bytes)
+    }
+}
+
+// The answer to three words.
+#[tactic(auto, using(crate::proofs::Read::read_steps), unfolding(crate::specs::Answers::reply_of))]
+fn reply(heap: Global, function: &str, digits: &str, count: &str) -> Result<String, Problem>
+    ensures { Gives string_bytes result (reply_of function.now digits.now count.now) }
+{
+    let f = function.parse::<Function>()?;
+    let m = message(heap, digits)?;
+    let n = count.parse::<usize>()?;
+    let bytes = hashed(heap, f, &m, n)?.ok_or(Problem::Length)?;
+    Ok(shown(heap, &bytes)?)
+}
+
+// The answer to a line.
+pub fn answer(heap: Global, line: &str) -> Result<String, Problem>
+    ensures { Gives string_bytes result (answer_of line.now) }
+{
+    let (function, digits, count) = three_words(line).ok_or(Problem::Usage)?;
+    reply(heap, function, digits, count)
+}

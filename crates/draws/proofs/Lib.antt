@@ -1,0 +1,2 @@
+mod Numbers
+pub mod Groups

@@ -1,0 +1,42 @@
+// A text is answered a line at a time.
+#![tactic(auto)]
+
+ghost use Rattle.std.specs.Prelude.{◌≡◌, ◌≢◌, [], ◌∷◌, length, IsSome, OnOk, MatchOption};
+ghost use Rattle.std.specs.Fn.{FnReturnsAt};
+ghost use Rattle.lines.specs.Answers.{Shows, AnswersLines};
+ghost use Rattle.lines.specs.Words.{words_of};
+
+use std::alloc::Global;
+use std::fmt;
+use std::io::{self, BufRead, Write};
+
+// Answers each line of the input by a line: what `answer` gives, or behind `cannot: ` what is wrong. The clause says what is written
+// where the input's bytes are known and the problems say what they print.
+pub fn answer_lines<R, W, E, F>(heap: Global, input: R, out: &mut W, answer: F) -> io::Result<()>
+where
+    R: BufRead + Drop,
+    W: Write,
+    E: fmt::Display + Drop,
+    F: Fn(&str) -> Result<String, E>,
+    requires { F.IsAlwaysCallable answer }
+    ensures { ((e : _) → IsSome (E.output e)) → OnOk result (AnswersLines (λ line shown. (r : _) × FnReturnsAt F.Fn answer line r × Shows E.output r shown)
+        (R.remaining input) (W.contents out.old) (W.contents out.new)) }
+{
+    for line in input.lines(heap) {
+        match answer(line?.as_str()) {
+            Ok(text) => writeln!(out, "{text}")?,
+            Err(problem) => writeln!(out, "cannot: {problem}")?,
+        }
+    }
+    Ok(())
+}
+
+// The words of a line that has three.
+#[tactic(auto, using(crate::proofs::Split::next_word))]
+pub fn three_words(line: &str) -> Option<(&str, &str, &str)>
+    ensures { MatchOption result (length (words_of line.now) ≢ 3) (λ w. words_of line.now ≡ w.0.now ∷ w.1.now ∷ w.2.now ∷ []) }
+{
+    let mut words = line.split_whitespace();
+    let three = (words.next()?, words.next()?, words.next()?);
+    words.next().is_none().then_some(three)
+}

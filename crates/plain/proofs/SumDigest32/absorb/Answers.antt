@@ -1,8 +1,0 @@
-use Rattle.std.proofs.Common.{◌+◌, sum, ap, ◌∙◌}
-use Rattle.standards.specs.Lists.{table}
-use Rattle.plain.specs.Counting.{count_from}
-use Rattle.plain.proofs.Counts.{added_on}
-use Rattle.plain.proofs.SumDigest32.absorb.Goals as goal
-
-pub returns : goal.returns
-returns c m = ap (table 32) (ap (λ t. count_from (t + sum m)) c.added-self.ensures ∙ added_on c.args.self.now.total c.args.part.now m)
