@@ -1,5 +1,7 @@
 // Drawing numbers by rejection out of a stream, for any kind of candidates and any stream: whole blocks are read, and a number is kept
 // without a branch.
+// Noise is drawn here too, so loops go by index: branches and places depend on how many numbers were kept, which is what the standards'
+// rejection shows, and on nothing else.
 #![tactic(auto)]
 
 ghost use Rattle.std.specs.Prelude.{◌≡◌, ◌+◌, ◌*◌, ◌<◌, ◌≤◌, ◌++◌, length, MatchOption, T};
@@ -30,7 +32,7 @@ fn draw_block<const ROOM: usize, C: Candidates<ROOM>>(
     }
 }
 
-// The same out of the next bytes of a stream.
+// The same out of the next bytes of a stream. The room is for the longest block, since memory is fixed.
 fn draw_next<const ROOM: usize, C: Candidates<ROOM>, R: Reader>(
     kind: C,
     reader: &mut R,

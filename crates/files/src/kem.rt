@@ -1,4 +1,4 @@
-// What `kem` answers, over any hashes.
+// What `kem` answers, over any hashes. A set goes by its number up to the call, whose answer to a number of no set is part of what is stated.
 ghost use Rattle.std.specs.Prelude.{◌≡◌, IfOk};
 ghost use Rattle.standards.specs.Hashes.{Hashes};
 ghost use Rattle.files.specs.Texts.{text_of};

@@ -1,4 +1,5 @@
 // The sponge: lanes that take in a message and give bytes, RATE bytes a block.
+// A message may be secret: loops go by index or by what is left of a slice, and their branches depend on lengths and on the place alone.
 ghost use Rattle.std.specs.Prelude.{◌≡◌, ℕ, ◌+◌, ◌*◌, ◌%◌, ◌<◌, ◌≤◌, List, [], length, take};
 ghost use Rattle.standards.specs.Lists.{table};
 ghost use Rattle.standards.specs.Fips202.{lane_of, state_byte};

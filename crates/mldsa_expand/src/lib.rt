@@ -1,4 +1,6 @@
 // ExpandA, ExpandS and ExpandMask: matrices and vectors out of a seed, row by row.
+// The matrix is public, and its loop walks the rows. Small polynomials and masks are secret: their loops go by index, which lowers to plain code.
+// Every row is drawn and stated whatever the draws before it were, so what ExpandA and ExpandS answer is a `bool` and no reason to stop.
 #![tactic(auto, using(mldsa_laws::proofs::RowLoops::rows_are))]
 
 ghost use Rattle.std.specs.Prelude.{◌≡◌, ◌+◌, ◌*◌, ◌/◌, ◌%◌, ◌<◌, ◌≤◌, T, ◌⊎◌, length};
@@ -22,10 +24,8 @@ pub fn expand_a<H: Hash>(p: DsaSet, rho: &[u8], a: &mut [[u32; 256]]) -> bool
     ensures below { RowsBelow 8380417 (length a.old) a.new }
 {
     let mut full = true;
-    for n in 0..a.len() {
-        let mut f = [0u32; 256];
-        full &= rej_ntt_poly::<H>(rho, &[(n % p.l) as u8, (n / p.l) as u8], &mut f);
-        a[n] = f;
+    for (n, row) in a.iter_mut().enumerate() {
+        full &= rej_ntt_poly::<H>(rho, &[(n % p.l) as u8, (n / p.l) as u8], row);
     }
     full
 }

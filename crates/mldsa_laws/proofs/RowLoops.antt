@@ -32,12 +32,6 @@ rows_next q f old i v x h is small w =
 pub rows_are : (n : ℕ) (f : ℕ → List ℕ) (v : List (List ℕ)) → length v ≡ n → RowsAre n f v → v ≡ tables n f
 rows_are n f v l h = ext_get_or [] v (tables n f) (l ∙ sym (length-tables n f)) (λ k less. let lt : k < n = omega (arith, l) in h k lt ∙ sym (row_at_lem n f k lt))
 
-pub rows_end : (q : ℕ) (f : ℕ → List ℕ) (old : List (List ℕ)) (i : ℕ) (v : List (List ℕ)) → length old ≤ i → RowsDone q f old i v → v ≡ tables (length old) f
-rows_end q f old i v h w = rows_are (length old) f v w.long (λ j l. w.done j (omega arith))
-
-pub rows-small : (q : ℕ) (f : ℕ → List ℕ) (old : List (List ℕ)) (i : ℕ) (v : List (List ℕ)) → length old ≤ i → RowsDone q f old i v → RowsBelow q (length old) v
-rows-small q f old i v h w = λ j l. w.below j (omega arith)
-
 -- a row that the loop has not come to
 pub rows_waiting : (q : ℕ) (f : ℕ → List ℕ) (old : List (List ℕ)) (i : ℕ) (v : List (List ℕ)) → i < length old → RowsBelow q (length old) old → RowsDone q f old i v → T (all_below q (row_at v i))
 rows_waiting q f old i v h b w = subst (λ r. T (all_below q r)) (sym (w.rest i (omega arith))) (b i h)

@@ -1,4 +1,5 @@
 // Tests of infinity norms. Every number is looked at, whatever the ones before it were.
+// Loops go by index, which lowers to plain code that reads the same places whatever the numbers are.
 ghost use Rattle.std.specs.Prelude.{◌≡◌, ◌<◌, T, length, nat_lt};
 ghost use Rattle.standards.specs.Lists.{all_below};
 ghost use Rattle.standards.specs.Ring.{magnitude as magnitude_of, norm, norms as norms_of};

@@ -1,5 +1,6 @@
 // Power2Round, HighBits, LowBits, MakeHint and UseHint, in whole numbers.
 // There is no branch on a number: gamma2 is public, and each division is by a constant, which the compiler turns into a product and a shift.
+// Loops go by index: the numbers may be secret, and this form lowers to plain code that reads the same places whatever they are.
 #![tactic(auto, using(crate::proofs::Numbers::number_loops))]
 
 ghost use Rattle.std.specs.Prelude.{◌≡◌, ◌+◌, ◌-◌, ◌%◌, ◌<◌, T};
@@ -36,6 +37,7 @@ fn high_by<const G: u32>(r: u32) -> u32
     (r + (G - 1)) / (2 * G) % ((Q - 1) / (2 * G))
 }
 
+// The choice picks a constant for the compiler, so that the division becomes a product and a shift.
 fn high_number(gamma2: Gamma2, r: u32) -> u32
     requires { r < 8380417 }
     ensures value { result ≡ high_bits gamma2.value r }

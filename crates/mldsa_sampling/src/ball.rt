@@ -1,4 +1,5 @@
 // SampleInBall: a challenge with tau numbers 1 or -1, the others noughts.
+// The loop goes by the standard's index. Its places are the challenge's, which is public in a signature.
 ghost use Rattle.std.specs.Prelude.{◌≡◌, T};
 ghost use Rattle.standards.specs.Lists.{all_below};
 ghost use Rattle.standards.specs.MlDsaParts.{sample_in_ball};

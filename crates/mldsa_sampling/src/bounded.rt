@@ -92,7 +92,8 @@ impl Candidates<528> for HalfBytes {
     }
 }
 
-// RejBoundedPoly of a seed that is lent in two parts: whether the draw was full. The places of a draw that fell short are noughts.
+// RejBoundedPoly of a seed that is lent in two parts: whether the draw was full. The places of a draw that fell short are noughts: the row is
+// stated either way, so the answer is a `bool`.
 pub fn rej_bounded_poly<H: Hash>(eta: usize, rho: &[u8], n: &[u8], f: &mut [u32; 256]) -> bool
     requires { (eta ≡ 2) ⊎ (eta ≡ 4) }
     ensures full { result ≡ (length (rej_bounded_poly H.Hash.hashes eta (rho.now ++ n.now)) == 256) }

@@ -8,7 +8,8 @@ use hash::Hash;
 use mldsa_parts::encoding::bit_unpack;
 use sets::types::DsaSet;
 
-// Polynomial n of the mask out of the seed rho; the counter's low byte comes first. 640 bytes are 256 numbers of 20 bits.
+// Polynomial n of the mask out of the seed rho; the counter's low byte comes first. 640 bytes are 256 numbers of 20 bits:
+// a room for the widest set, since memory is fixed.
 pub fn expand_mask<H: Hash>(p: DsaSet, rho: &[u8], n: u16, f: &mut [u32; 256])
     ensures value { f.new ≡ expand_mask H.Hash.hashes (dsa_numbers p) rho.now n }
     ensures below { T (all_below 8380417 f.new) }

@@ -66,7 +66,8 @@ impl Candidates<312> for BelowQ {
     }
 }
 
-// RejNTTPoly of a seed that is lent in two parts: whether the draw was full. The places of a draw that fell short are noughts.
+// RejNTTPoly of a seed that is lent in two parts: whether the draw was full. The places of a draw that fell short are noughts: the row is
+// stated either way, so the answer is a `bool`.
 pub fn rej_ntt_poly<H: Hash>(rho: &[u8], entry: &[u8], f: &mut [u32; 256]) -> bool
     ensures full { result ≡ (length (rej_ntt_poly H.Hash.hashes (rho.now ++ entry.now)) == 256) }
     ensures row { f.new ≡ table 256 (at (rej_ntt_poly H.Hash.hashes (rho.now ++ entry.now))) }

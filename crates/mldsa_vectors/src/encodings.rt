@@ -1,4 +1,5 @@
 // Rows to bytes and back, one row after the other.
+// Loops go by row: the rows may be secret, and this form lowers to plain code that reads the same places whatever they hold.
 #![tactic(auto, using(mldsa_laws::proofs::RowLoops::rows_are))]
 
 ghost use Rattle.std.specs.Prelude.{◌≡◌, ◌+◌, ◌*◌, ◌<◌, ◌≤◌, T, length, take, drop};

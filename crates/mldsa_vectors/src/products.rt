@@ -1,4 +1,5 @@
 // Transforms and products of rows. In every contract row i of the result is an equation of its own; all numbers stay below q.
+// Loops go by row: the rows may be secret, and this form lowers to plain code that reads the same places whatever they hold.
 #![tactic(auto, using(mldsa_laws::proofs::RowLoops::rows_are))]
 
 ghost use Rattle.std.specs.Prelude.{◌≡◌, ℕ, ◌+◌, ◌*◌, ◌<◌, ◌≤◌, T, length};

@@ -1,4 +1,5 @@
 // ByteDecode of 12 bits, and a message's bits as a polynomial.
+// Loops go by index: the numbers may be secret, and this form lowers to plain code that reads the same places whatever they are.
 ghost use Rattle.std.specs.Prelude.{◌≡◌, T, length};
 ghost use Rattle.standards.specs.Lists.{all_below};
 ghost use Rattle.standards.specs.MlKemParts.{byte_decode12};

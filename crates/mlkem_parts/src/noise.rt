@@ -1,4 +1,5 @@
 // SamplePolyCBD: a number from -eta to eta is the sum of eta bits less the sum of the eta bits after them.
+// Loops go by index: noise is secret, and this form lowers to plain code that reads the same places whatever it is.
 ghost use Rattle.std.specs.Prelude.{◌≡◌, ◌*◌, ◌<◌, ◌≤◌, T, length};
 ghost use Rattle.standards.specs.Lists.{all_below};
 ghost use Rattle.standards.specs.MlKemParts.{sample_poly_cbd};
@@ -32,7 +33,7 @@ fn cbd_row<const ETA: usize>(bs: &[u8], f: &mut [u16; 256])
     }
 }
 
-// SamplePolyCBD of 64 eta bytes.
+// SamplePolyCBD of 64 eta bytes. eta is public: the choice picks a constant for the compiler.
 pub fn sample_poly_cbd(eta: usize, bs: &[u8], f: &mut [u16; 256])
     requires { (2 ≤ eta) × ((eta ≤ 3) × (length bs.now ≡ 64 * eta)) }
     ensures value { f.new ≡ sample_poly_cbd eta bs.now }

@@ -1,4 +1,5 @@
 // Compress and Decompress, in whole numbers. Division is by a constant, which the compiler turns into a product and a shift.
+// Loops go by index: the numbers may be secret, and this form lowers to plain code that reads the same places whatever they are.
 ghost use Rattle.std.specs.Prelude.{◌≡◌, ◌^◌, ◌<◌, ◌≤◌, T};
 ghost use Rattle.standards.specs.Lists.{all_below};
 ghost use Rattle.standards.specs.MlKemParts.{compress, decompress, compress_p, decompress_p};

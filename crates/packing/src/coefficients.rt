@@ -1,4 +1,5 @@
 // The 256 numbers of a polynomial, read and written eight at a time, whatever the word that holds each.
+// Loops go by index: the numbers may be secret, and this form lowers to plain code whose branches and places are known from the counts alone.
 ghost use Rattle.std.specs.Prelude.{◌≡◌, ◌+◌, ◌*◌, ◌^◌, ◌<◌, T, ◌++◌, length, take, drop};
 ghost use Rattle.standards.specs.Lists.{table, at, all_below};
 

@@ -30,7 +30,8 @@ pub trait Modular: Word {
     ghost positive: { 0 < q };
 }
 
-// A sum is below 2 * 3329, which fits 16 bits; a product is below 2^24 and goes through 32.
+// A sum is below 2 * 3329, which fits 16 bits; a product is below 2^24 and goes through 32. The modulus is a literal here and below, for the
+// compiler makes a product and a shift of `%` by it, and the word that a product goes through is another for each: so two impls of one line each.
 impl Modular for u16 {
     ghost q = { 3329 };
 

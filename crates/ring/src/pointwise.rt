@@ -31,7 +31,7 @@ pub fn sub<F: Modular>(f: &mut [F; 256], g: &[F; 256])
 }
 
 // f := c f
-pub fn scale<F: Modular>(f: &mut [F; 256], c: F)
+pub(crate) fn scale<F: Modular>(f: &mut [F; 256], c: F)
     requires factor { F.value c < F.q }
     requires poly { Poly F.q (map F.value f.old) }
     ensures { map F.value f.new ≡ scaled F.q (F.value c) (map F.value f.old) }

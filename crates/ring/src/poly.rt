@@ -12,6 +12,7 @@ pub struct Poly<F: Modular> {
     ghost below: { T (all_below F.q (F.numbers c)) },
 }
 
+// By hand: a derive is refused for a type with a parameter and a ghost field.
 impl<F: Modular> Clone for Poly<F> {
     ghost is_clone = { λ x y. y ≡ x };
 

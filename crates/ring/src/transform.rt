@@ -1,4 +1,5 @@
 // The transforms of both schemes in place, over the powers of a root of unity: all layers, and for the inverse the last factor.
+// Loops go by the layers' numbers, for the numbers of the row may be secret: branches and places are known from the layers alone.
 ghost use Rattle.std.specs.Prelude.{◌≡◌, ℕ, ◌^◌, ◌<◌, ◌≤◌, T, List, map};
 ghost use Rattle.standards.specs.Lists.{all_below};
 ghost use Rattle.standards.specs.Ring.{Poly};

@@ -1,4 +1,5 @@
 // Comparing and choosing without a branch: every byte is looked at, and which one is taken is a matter of masks.
+// Loops go by index, which lowers to plain code that reads the same places whatever the bytes are.
 #![tactic(auto)]
 
 ghost use Rattle.std.specs.Prelude.{◌≡◌, ◌<◌, length, if◌then◌else◌, ◌==◌, nat_eq};

@@ -4,9 +4,10 @@ use Rattle.std.proofs.Math.Path.{fun_ext}
 use Rattle.std.proofs.Math.Nat.{mul-le-mul_left}
 use Rattle.standards.specs.Lists.{table, at}
 use Rattle.algebra.proofs.Draws.{draw_full, draw_out}
+use Rattle.algebra.proofs.Words.{length-numbers}
 use Rattle.hash.specs.Streams.{later}
 use Rattle.draws.specs.Kept.{kept}
-use Rattle.draws.proofs.Numbers.{numbers-take, length-numbers}
+use Rattle.draws.proofs.Numbers.{numbers-take}
 use Rattle.draws.proofs.Groups.{kept-none, drawn_below, block_next}
 use Rattle.draws.proofs.draw.Goals as goal
 
