@@ -180,7 +180,7 @@ impl<const RATE: usize> Squeezer<RATE> {
         n
     }
 
-    // Fills `out`.
+    // Fills `out`. It counts, where `absorb` has a slice that shrinks: an invariant can't name what was written before such a slice.
     pub fn squeeze(&mut self, out: &mut [u8])
         ensures bytes { out.new ≡ table (length out.old) (read_from RATE self.old.lanes self.old.place) }
         ensures onward { read_from RATE self.new.lanes self.new.place ≡ later (length out.old) (read_from RATE self.old.lanes self.old.place) }
