@@ -1,6 +1,6 @@
 -- Numbers as sums of their bits.
 use Rattle.std.proofs.Common.{◌≡◌, ℕ, zero, suc, ◌+◌, ◌*◌, ◌/◌, ◌%◌, ◌^◌, sym, ap, arith}
-use native.Mathlib.Nat.{mod-one}
+use Rattle.std.proofs.Math.Nat.{mod-one}
 use Rattle.std.proofs.lemmas.Nat.{mod-pow-add}
 use Rattle.standards.specs.Lists.{sum_to}
 

@@ -1,6 +1,6 @@
 -- Numbers that agree modulo q.
 use Rattle.std.proofs.Common.{◌≡◌, ℕ, zero, suc, ◌+◌, ◌*◌, ◌/◌, ◌%◌, ◌^◌, ◌<◌, sym, refl, ap, ◌∙◌, mod-lt, mul_comm, pow-suc, arith, pow-add}
-use native.Mathlib.Nat.{div-add-mod, add-mul-mod_self_left, mod-mod, pow-zero}
+use Rattle.std.proofs.Math.Nat.{div-add-mod, add-mul-mod_self_left, mod-mod, pow-zero}
 use Rattle.standards.specs.Lists.{sum_to}
 use Rattle.standards.specs.Ring.{power}
 use Rattle.algebra.specs.Modular.{sub_m}

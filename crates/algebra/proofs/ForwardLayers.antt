@@ -1,6 +1,6 @@
 -- The layers, one after the other, come to the transform.
 use Rattle.std.proofs.Common.{◌≡◌, ℕ, zero, suc, ◌+◌, ◌-◌, ◌*◌, ◌/◌, ◌%◌, ◌^◌, ◌<◌, ◌≤◌, Bool, T, eqb, List, sym, refl, ap, ◌∙◌, subst, ap₂, inl, inr, mul-le-mul_left, arith, eqb→eq}
-use native.Mathlib.Nat.{pow-succ'}
+use Rattle.std.proofs.Math.Nat.{pow-succ'}
 use Rattle.std.proofs.lemmas.Bool.{cases_eq}
 use Rattle.std.proofs.lemmas.Nat.{shl-shr, pow_pos}
 use Rattle.standards.specs.Lists.{at}

@@ -1,6 +1,6 @@
 -- The inverse transform by layers, and that the two undo one another.
 use Rattle.std.proofs.Common.{◌≡◌, ℕ, zero, suc, ◌+◌, ◌-◌, ◌*◌, ◌/◌, ◌%◌, ◌^◌, ◌<◌, ◌≤◌, sym, refl, ap, ◌∙◌, subst, ap₂, inl, inr, pow-suc, arith, pow-add}
-use native.Mathlib.Nat.{pow-zero, pow-succ', div-add-mod}
+use Rattle.std.proofs.Math.Nat.{pow-zero, pow-succ', div-add-mod}
 use Rattle.std.proofs.lemmas.Bool.{cases_lt}
 use Rattle.std.proofs.lemmas.Nat.{div_below, mod_below, pow_pos}
 use Rattle.standards.specs.Lists.{sum_to}

@@ -1,6 +1,6 @@
 -- The layers of the way back, one after the other, come to the inverse.
 use Rattle.std.proofs.Common.{◌≡◌, ℕ, zero, suc, ◌+◌, ◌-◌, ◌*◌, ◌/◌, ◌^◌, ◌<◌, ◌≤◌, Bool, T, eqb, List, sym, refl, ap, ◌∙◌, subst, inl, inr, mul-le-mul_left, arith, eqb→eq, pow-add}
-use native.Mathlib.Nat.{pow-succ', pow-zero}
+use Rattle.std.proofs.Math.Nat.{pow-succ', pow-zero}
 use Rattle.std.proofs.lemmas.Bool.{cases_lt}
 use Rattle.std.proofs.lemmas.Nat.{shl-shr, pow_pos, mul-add-lt}
 use Rattle.standards.specs.Lists.{at}

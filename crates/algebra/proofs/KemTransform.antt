@@ -1,6 +1,6 @@
 -- ML-KEM: NTT and its inverse undo one another, and MultiplyNTTs is the product of the ring.
 use Rattle.std.proofs.Common.{◌≡◌, ℕ, zero, suc, ◌+◌, ◌-◌, ◌*◌, ◌/◌, ◌%◌, ◌^◌, ◌<◌, T, List, length, sym, refl, ap, ◌∙◌, ap₂, mod-lt, mul_comm, arith, lit<, pow-add}
-use native.Mathlib.Nat.{mod-mod, pow-succ'}
+use Rattle.std.proofs.Math.Nat.{mod-mod, pow-succ'}
 use Rattle.std.proofs.lemmas.Bool.{cond-true, cond-false, eq-eqb, ne_eqb}
 use Rattle.standards.specs.Lists.{at, all_below, sum_to}
 use Rattle.standards.specs.Ring.{mul_p, mul_at}

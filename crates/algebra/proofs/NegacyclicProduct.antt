@@ -1,6 +1,6 @@
 -- A product of polynomials in which x^N is -1, against any sequence c with c (n + N) = - c n.
 use Rattle.std.proofs.Common.{◌≡◌, ℕ, ◌+◌, ◌-◌, ◌*◌, ◌/◌, ◌%◌, ◌<◌, Bool, true, false, cond, leb, sym, refl, ap, ◌∙◌, mod-lt, mul_assoc, arith}
-use native.Mathlib.Nat.{div-add-mod}
+use Rattle.std.proofs.Math.Nat.{div-add-mod}
 use Rattle.std.proofs.lemmas.Bool.{le-leb, lt-leb, cond-true, cond-false}
 use Rattle.standards.specs.Lists.{sum_to}
 use Rattle.algebra.proofs.Sums.{sum_same, sum_to_lem, sum_mul, sum_mul_right, sum_split, sum_swap}

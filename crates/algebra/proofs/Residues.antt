@@ -1,7 +1,7 @@
 -- The transform by layers: what stands in the array after l layers of L, with k = L - l to come, is the remainder of the polynomial f modulo a
 -- factor of x^(e 2^L) + 1 for each block. e numbers to a leaf; w a root of x^(2^L) = -1 modulo q.
 use Rattle.std.proofs.Common.{◌≡◌, ℕ, suc, ◌+◌, ◌*◌, ◌/◌, ◌%◌, ◌^◌, ◌<◌, sym, refl, ap, ◌∙◌, pow-suc, arith, pow-add}
-use native.Mathlib.Nat.{pow-zero, pow-succ'}
+use Rattle.std.proofs.Math.Nat.{pow-zero, pow-succ'}
 use Rattle.standards.specs.Lists.{sum_to}
 use Rattle.standards.specs.Bytes.{bit_rev}
 use Rattle.algebra.proofs.Sums.{sum_to_lem, sum_mul, sum_pairs}

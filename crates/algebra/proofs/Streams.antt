@@ -1,7 +1,7 @@
 -- Bits on their way: numbers of some bits come in, numbers of other bits go out, and what has not gone out yet waits. The same record serves
 -- both directions, from numbers of d bits to bytes and from bytes to numbers of d bits.
 use Rattle.std.proofs.Common.{◌≡◌, ℕ, ◌+◌, ◌*◌, ◌/◌, ◌%◌, ◌^◌, ◌<◌, List, length, set, sym, ap, ◌∙◌, subst, arith}
-use native.Mathlib.Nat.{mod-one}
+use Rattle.std.proofs.Math.Nat.{mod-one}
 use Rattle.standards.specs.Lists.{table, at}
 use Rattle.algebra.proofs.Tables.{is_table, put_next}
 use Rattle.algebra.proofs.Windows.{window, window_join, window_low, window_rest, window_below}

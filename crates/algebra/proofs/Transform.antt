@@ -1,6 +1,6 @@
 -- The transforms as the standards have them, sums over powers, undo one another: one proof for any modulus, root and number of layers.
 use Rattle.std.proofs.Common.{◌≡◌, ℕ, suc, ◌+◌, ◌*◌, ◌^◌, ◌<◌, sym, refl, ap, ◌∙◌, arith, pow-add}
-use native.Mathlib.Nat.{pow-zero, pow-succ'}
+use Rattle.std.proofs.Math.Nat.{pow-zero, pow-succ'}
 use Rattle.std.proofs.lemmas.Nat.{pow_pos}
 use Rattle.standards.specs.Lists.{sum_to}
 use Rattle.standards.specs.Bytes.{bit_rev}

@@ -1,7 +1,6 @@
 -- Bits of a large number, some from a place on; and a list of numbers of b bits each as one large number.
-use Rattle.std.proofs.Common.{◌≡◌, ℕ, zero, suc, ◌+◌, ◌-◌, ◌*◌, ◌/◌, ◌%◌, ◌^◌, ◌<◌, ◌≤◌, List, [], ◌∷◌, length, sym, ap, ◌∙◌, mul-le-mul_right, mod-eq_of_lt, mul_comm, arith}
-use native.Mathlib.Nat.{mod-one, mod-mod, zero-div, pow-succ', mul-add-div_right}
-use lib.Bits.{bit_and}
+use Rattle.std.proofs.Common.{◌≡◌, ℕ, zero, suc, ◌+◌, ◌-◌, ◌*◌, ◌/◌, ◌%◌, ◌^◌, ◌<◌, ◌≤◌, List, [], ◌∷◌, length, sym, ap, ◌∙◌, mul-le-mul_right, mod-eq_of_lt, mul_comm, arith, bit_and}
+use Rattle.std.proofs.Math.Nat.{mod-one, mod-mod, zero-div, pow-succ', mul-add-div_right}
 use Rattle.std.proofs.lemmas.Nat.{pow_pos, pow-add, mod-pow-add, shr-shr, shr_split, shr_high, mod_low, mod_below, div-add-mod', and_mask, one_shl, shl_whole}
 use Rattle.standards.specs.Lists.{from, table, at}
 

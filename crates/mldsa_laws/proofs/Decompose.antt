@@ -1,6 +1,6 @@
 -- High and low parts of a number modulo q = 2 g (N + 1) + 1. Over any g and N, so over both of ML-DSA's gamma2.
 use Rattle.std.proofs.Common.{◌≡◌, ℕ, suc, ◌+◌, ◌-◌, ◌*◌, ◌/◌, ◌%◌, ◌<◌, ◌≤◌, cond, eqb, leb, ◌⊎◌, sym, refl, ap, ◌∙◌, inl, inr, mod-lt, mul-le-mul_left, arith}
-use native.Mathlib.Nat.{div-add-mod}
+use Rattle.std.proofs.Math.Nat.{div-add-mod}
 use Rattle.std.proofs.lemmas.Nat.{mod-mul-add, div-mul-add}
 use Rattle.std.proofs.lemmas.Bool.{cases_lt, cases_eq, cond-true, cond-false, le-leb, lt-leb, eq-eqb, ne_eqb}
 use Rattle.standards.specs.MlDsaParts.{high_bits, low_bits}

@@ -1,6 +1,6 @@
 -- A hint part that passes its check is what its rows, packed again, give.
 use Rattle.std.proofs.Common.{◌≡◌, ℕ, zero, suc, ◌+◌, ◌-◌, ◌<◌, ◌≤◌, T, List, ◌∷◌, ◌++◌, length, get_or, take, drop, sym, refl, ap, ◌∙◌, subst, ap₂, add-zero, zero-add, arith, length-drop, take-add}
-use native.Mathlib.Nat.{sub-zero}
+use Rattle.std.proofs.Math.Nat.{sub-zero}
 use Rattle.std.proofs.lemmas.List.{length-take-le, drop-drop, take-append-drop, get_or-drop}
 use Rattle.standards.specs.Lists.{from, table, rows, tables, all_below}
 use Rattle.standards.specs.MlDsaParts.{DsaSet, places, all_places, row_ends, hint_bit_pack}

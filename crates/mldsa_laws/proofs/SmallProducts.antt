@@ -1,6 +1,6 @@
 -- Numbers modulo q near 0: sums and products of small ones are small. The size of a product with a challenge.
 use Rattle.std.proofs.Common.{ℕ, zero, suc, ◌+◌, ◌-◌, ◌*◌, ◌/◌, ◌%◌, ◌<◌, ◌≤◌, leb, List, refl, inl, inr, mul-le-mul_right, mod-lt, arith, lit<}
-use native.Mathlib.Nat.{div-add-mod}
+use Rattle.std.proofs.Math.Nat.{div-add-mod}
 use Rattle.std.proofs.lemmas.Nat.{mul-le}
 use Rattle.std.proofs.lemmas.Bool.{cond_both}
 use Rattle.standards.specs.Lists.{sum_to, at}

@@ -1,7 +1,6 @@
 -- Compress and Decompress of one number, in words of 32 bits.
-use Rattle.std.proofs.Common.{◌≡◌, ℕ, ◌+◌, ◌-◌, ◌*◌, ◌/◌, ◌%◌, ◌^◌, ◌<◌, ◌≤◌, ap, ◌∙◌, mul_comm, arith, pow_mono}
-use native.Mathlib.Nat.{pow-succ'}
-use lib.Bits.{bit_and}
+use Rattle.std.proofs.Common.{◌≡◌, ℕ, ◌+◌, ◌-◌, ◌*◌, ◌/◌, ◌%◌, ◌^◌, ◌<◌, ◌≤◌, ap, ◌∙◌, mul_comm, arith, pow_mono, bit_and}
+use Rattle.std.proofs.Math.Nat.{pow-succ'}
 use Rattle.std.proofs.lemmas.Nat.{pow_pos, shl_whole, one_shl, and_mask, div_below}
 use Rattle.standards.specs.MlKemParts.{compress, decompress}
 

@@ -1,5 +1,4 @@
-use Rattle.std.proofs.Common.{◌≡◌, ◌+◌, ◌-◌, ◌*◌, ◌/◌, ◌%◌, ◌^◌, length, set, sym, ap, ◌∙◌, subst, mul-le-mul_left, arith}
-use lib.Bits.{bit_and}
+use Rattle.std.proofs.Common.{◌≡◌, ◌+◌, ◌-◌, ◌*◌, ◌/◌, ◌%◌, ◌^◌, length, set, sym, ap, ◌∙◌, subst, mul-le-mul_left, arith, bit_and}
 use Rattle.std.proofs.lemmas.Nat.{and_mask}
 use Rattle.standards.specs.Lists.{at}
 use Rattle.algebra.proofs.Windows.{whole, digit, masked, placed}
