@@ -21,8 +21,16 @@ kem_is_any d h = search rules
 pub dsa_is_any : (d : ℕ) → T (dsa_width d) → T (any_width d)
 dsa_is_any d h = grind (arith, nat_tests)
 
+-- the widest
+pub kem_few : (d : ℕ) → T (kem_width d) → d ≤ 12
+kem_few d h = search rules
+
+pub dsa_few : (d : ℕ) → T (dsa_width d) → d ≤ 20
+dsa_few d h = grind (arith, nat_tests)
+
+-- a word has room for them
 pub kem_fits : (d : ℕ) → T (kem_width d) → d ≤ 16
-kem_fits d h = search rules
+kem_fits d h = omega (arith, kem_few d h)
 
 pub dsa_fits : (d : ℕ) → T (dsa_width d) → d ≤ 32
-dsa_fits d h = grind (arith, nat_tests)
+dsa_fits d h = omega (arith, dsa_few d h)

@@ -13,6 +13,8 @@ mod coefficients;
 mod eights;
 
 use eights::{pack_eights, unpack_eights};
+use std::alloc::AllocError;
+use std::marker::PhantomData;
 use words::Word;
 
 // Words whose numbers are packed: those of 16 bits at ML-KEM's widths, those of 32 at ML-DSA's.
@@ -41,12 +43,32 @@ impl Packed for u32 {
     ghost fits = { dsa_fits };
 }
 
+// How many bits a packed number has: one of the widths of the scheme whose words are W. `of` names W, which the fact alone would not, and takes no room.
+pub struct Width<W: Packed> {
+    pub bits: usize,
+    pub of: PhantomData<W>,
+    pub ghost known: { T (W.width bits) },
+}
+
+// By hand: a derive is refused for a type with a parameter and a ghost field.
+impl<W: Packed> Clone for Width<W> {
+    ghost is_clone = { λ x y. y ≡ x };
+
+    ghost is_infallible = { λ _. Unit {0} };
+
+    fn clone(&self) -> Result<Self, AllocError> {
+        Ok(*self)
+    }
+}
+
+impl<W: Packed> Copy for Width<W> {}
+
 // 256 numbers as 32 d bytes. What a number has above its d bits is left out.
-pub fn pack<W: Packed>(d: usize, f: &[W; 256], out: &mut [u8])
-    requires { (T (W.width d)) × (length out.old ≡ 32 * d) }
-    ensures { out.new ≡ pack d (W.numbers f.now) }
+pub fn pack<W: Packed>(d: Width<W>, f: &[W; 256], out: &mut [u8])
+    requires { length out.old ≡ 32 * d.bits }
+    ensures { out.new ≡ pack d.bits (W.numbers f.now) }
 {
-    match d {
+    match d.bits {
         1 => pack_eights::<1, W>(f, out),
         3 => pack_eights::<3, W>(f, out),
         4 => pack_eights::<4, W>(f, out),
@@ -63,11 +85,11 @@ pub fn pack<W: Packed>(d: usize, f: &[W; 256], out: &mut [u8])
 }
 
 // 256 numbers, each below 2^d, out of 32 d bytes.
-pub fn unpack<W: Packed>(d: usize, bs: &[u8], f: &mut [W; 256])
-    requires { (T (W.width d)) × (length bs.now ≡ 32 * d) }
-    ensures { W.numbers f.new ≡ unpack d 256 bs.now }
+pub fn unpack<W: Packed>(d: Width<W>, bs: &[u8], f: &mut [W; 256])
+    requires { length bs.now ≡ 32 * d.bits }
+    ensures { W.numbers f.new ≡ unpack d.bits 256 bs.now }
 {
-    match d {
+    match d.bits {
         1 => unpack_eights::<1, W>(bs, f),
         3 => unpack_eights::<3, W>(bs, f),
         4 => unpack_eights::<4, W>(bs, f),
