@@ -1,38 +1,44 @@
 // What follows from the numbers of a set of ML-DSA: widths, bounds and lengths.
-ghost use Rattle.std.specs.Prelude.{◌≡◌, ◌-◌, ◌/◌, ◌<◌, ◌≤◌, T};
+ghost use Rattle.std.specs.Prelude.{◌≡◌, ◌-◌, ◌/◌, ◌<◌, ◌≤◌};
 ghost use Rattle.standards.specs.MlDsaParts.{eta_bits, z_bits, w1_bits, gamma1 as gamma1_of, beta};
 ghost use Rattle.standards.specs.MlDsa.{pk_length, sk_length, sig_length};
-ghost use Rattle.packing.specs.Widths.{dsa_width};
 ghost use Rattle.sets.specs.Sets.{dsa_numbers};
 
 use crate::types::DsaSet;
+use packing::Width;
+use std::marker::PhantomData;
 
 impl DsaSet {
     // Bits of a number of s1 and s2, from -eta to eta.
-    pub fn eta_bits(self) -> usize
-        ensures value { result ≡ eta_bits (dsa_numbers self) }
-        ensures width { T (dsa_width result) }
-        ensures few { result ≤ 4 }
+    pub fn eta_bits(self) -> Width<u32>
+        ensures { result.bits ≡ eta_bits (dsa_numbers self) }
     {
-        if self.eta == 2 { 3 } else { 4 }
+        let bits = if self.eta == 2 { 3 } else { 4 };
+        Width {
+            bits,
+            of: PhantomData,
+        }
     }
 
     // Bits of a number of z, above -gamma1 and up to gamma1.
-    pub fn z_bits(self) -> usize
-        ensures value { result ≡ z_bits (dsa_numbers self) }
-        ensures width { T (dsa_width result) }
-        ensures few { result ≤ 20 }
+    pub fn z_bits(self) -> Width<u32>
+        ensures { result.bits ≡ z_bits (dsa_numbers self) }
     {
-        self.gamma1_bits + 1
+        Width {
+            bits: self.gamma1_bits + 1,
+            of: PhantomData,
+        }
     }
 
     // Bits of a number of w1.
-    pub fn w1_bits(self) -> usize
-        ensures value { result ≡ w1_bits (dsa_numbers self) }
-        ensures width { T (dsa_width result) }
-        ensures few { result ≤ 6 }
+    pub fn w1_bits(self) -> Width<u32>
+        ensures { result.bits ≡ w1_bits (dsa_numbers self) }
     {
-        if self.gamma2 == 95232 { 6 } else { 4 }
+        let bits = if self.gamma2 == 95232 { 6 } else { 4 };
+        Width {
+            bits,
+            of: PhantomData,
+        }
     }
 
     pub fn gamma1(self) -> u32
@@ -81,13 +87,13 @@ impl DsaSet {
     pub fn sk_length(self) -> usize
         ensures { result ≡ sk_length (dsa_numbers self) }
     {
-        128 + 32 * self.eta_bits() * (self.l + self.k) + 416 * self.k
+        128 + 32 * self.eta_bits().bits * (self.l + self.k) + 416 * self.k
     }
 
     // Bytes of a signature.
     pub fn sig_length(self) -> usize
         ensures { result ≡ sig_length (dsa_numbers self) }
     {
-        self.c_length() + 32 * self.z_bits() * self.l + self.omega + self.k
+        self.c_length() + 32 * self.z_bits().bits * self.l + self.omega + self.k
     }
 }
