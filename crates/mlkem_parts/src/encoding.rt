@@ -6,7 +6,20 @@ ghost use Rattle.standards.specs.MlKemParts.{byte_decode12};
 ghost use Rattle.standards.specs.MlKem.{mu as mu_of};
 
 use crate::rounding::decompress;
-use packing::unpack;
+use packing::{Width, unpack};
+use std::marker::PhantomData;
+
+// Bits of a number of a key.
+pub const KEY_BITS: Width<u16> = Width {
+    bits: 12,
+    of: PhantomData,
+};
+
+// Bits of a number of a message.
+pub const MESSAGE_BITS: Width<u16> = Width {
+    bits: 1,
+    of: PhantomData,
+};
 
 // Numbers of 12 bits, modulo q.
 pub fn byte_decode_12(bs: &[u8], f: &mut [u16; 256])
@@ -14,7 +27,7 @@ pub fn byte_decode_12(bs: &[u8], f: &mut [u16; 256])
     ensures value { f.new ≡ byte_decode12 bs.now }
     ensures below { T (all_below 3329 f.new) }
 {
-    unpack(12, bs, f);
+    unpack(KEY_BITS, bs, f);
     for i in 0..256 {
         f[i] %= 3329;
     }
@@ -25,6 +38,6 @@ pub fn mu(m: &[u8; 32], f: &mut [u16; 256])
     ensures value { f.new ≡ mu_of m.now }
     ensures below { T (all_below 3329 f.new) }
 {
-    unpack(1, m, f);
+    unpack(MESSAGE_BITS, m, f);
     decompress(1, f);
 }

@@ -3,10 +3,10 @@
 ghost use Rattle.std.specs.Prelude.{◌≡◌, ◌*◌, ◌<◌, ◌≤◌, T, length};
 ghost use Rattle.standards.specs.Lists.{all_below};
 ghost use Rattle.standards.specs.MlKemParts.{sample_poly_cbd};
-ghost use Rattle.packing.specs.Widths.{kem_width};
 ghost use Rattle.mlkem_parts.specs.Bits.{bits_less};
 
-use packing::unpack;
+use packing::{Width, unpack};
+use std::marker::PhantomData;
 
 // The number of 2 ETA bits v. Both sums are at most ETA.
 fn cbd_number<const ETA: usize>(v: u16) -> u16
@@ -23,11 +23,15 @@ fn cbd_number<const ETA: usize>(v: u16) -> u16
 }
 
 fn cbd_row<const ETA: usize>(bs: &[u8], f: &mut [u16; 256])
-    requires { (ETA ≤ 3) × ((T (kem_width (2 * ETA))) × (length bs.now ≡ 64 * ETA)) }
+    requires { (2 ≤ ETA) × ((ETA ≤ 3) × (length bs.now ≡ 64 * ETA)) }
     ensures value { f.new ≡ sample_poly_cbd ETA bs.now }
     ensures below { T (all_below 3329 f.new) }
 {
-    unpack(2 * ETA, bs, f);
+    let d = Width {
+        bits: 2 * ETA,
+        of: PhantomData,
+    };
+    unpack(d, bs, f);
     for i in 0..256 {
         f[i] = cbd_number::<ETA>(f[i]);
     }
