@@ -1,20 +1,11 @@
--- Widths, and loops that put one number after the other.
-use Rattle.std.proofs.Common.{mod-lt, zero, suc, List, [], ◌∷◌, set, lt→ltb, ltb, ◌≡◌, ℕ, ◌+◌, ◌%◌, ◌<◌, ◌≤◌, true, T, arith, lit<}
-use Rattle.std.proofs.lemmas.Bool.Decides.{nat_tests}
+-- Loops that put one number after the other.
+use Rattle.std.proofs.Common.{mod-lt, zero, suc, List, [], ◌∷◌, set, lt→ltb, ltb, ◌≡◌, ℕ, ◌+◌, ◌%◌, ◌<◌, ◌≤◌, T, arith, lit<}
 use Rattle.standards.specs.Lists.{at, all_below}
-use Rattle.packing.specs.Widths.{dsa_width}
-use Rattle.algebra.proofs.Tests.{is_true, both, from_both}
+use Rattle.algebra.proofs.Tests.{both, from_both}
 use Rattle.algebra.proofs.Tables.{at_small}
 use Rattle.algebra.proofs.Numbers.{table_below}
 use Rattle.algebra.proofs.Words.{Filled, filled_set, filled_all}
 
-few_bits : (d : ℕ) → dsa_width d ≡ true → d ≤ 20
-few_bits d h = grind (arith, nat_tests)
-
-pub width_few : (d : ℕ) → T (dsa_width d) → d ≤ 20
-width_few d h = few_bits d (is_true (dsa_width d) h)
-
--- ---- loops that put one number after the other
 pub below_set : (q : ℕ) (xs : List ℕ) (i x : ℕ) → x < q → T (all_below q xs) → T (all_below q (set xs i x))
 unfolding all_below
 below_set q [] i x h b = b

@@ -5,17 +5,16 @@
 ghost use Rattle.std.specs.Prelude.{◌≡◌, ◌*◌, ◌%◌, ◌<◌, T, length};
 ghost use Rattle.standards.specs.Lists.{table, at, all_below};
 ghost use Rattle.standards.specs.MlDsaParts.{bit_pack, bit_unpack};
-ghost use Rattle.packing.specs.Widths.{dsa_width};
 
-use packing::{pack, unpack};
+use packing::{Width, pack, unpack};
 
 const Q: u32 = 8380417;
 
 // 256 numbers of d bits, each b less what is packed, as 32 d bytes.
-pub fn bit_pack(d: usize, b: u32, f: &[u32; 256], out: &mut [u8])
-    requires width { (T (dsa_width d)) × (length out.old ≡ 32 * d) }
+pub fn bit_pack(d: Width<u32>, b: u32, f: &[u32; 256], out: &mut [u8])
+    requires long { length out.old ≡ 32 * d.bits }
     requires below { (b < 8380417) × (T (all_below 8380417 f.now)) }
-    ensures { out.new ≡ bit_pack d b f.now }
+    ensures { out.new ≡ bit_pack d.bits b f.now }
 {
     let mut g = [0u32; 256];
     for i in 0..256 {
@@ -25,10 +24,10 @@ pub fn bit_pack(d: usize, b: u32, f: &[u32; 256], out: &mut [u8])
 }
 
 // The way back. What is unpacked has at most 20 bits, so it is below q.
-pub fn bit_unpack(d: usize, b: u32, bs: &[u8], f: &mut [u32; 256])
-    requires width { (T (dsa_width d)) × (length bs.now ≡ 32 * d) }
+pub fn bit_unpack(d: Width<u32>, b: u32, bs: &[u8], f: &mut [u32; 256])
+    requires long { length bs.now ≡ 32 * d.bits }
     requires below { b < 8380417 }
-    ensures value { f.new ≡ bit_unpack d b bs.now }
+    ensures value { f.new ≡ bit_unpack d.bits b bs.now }
     ensures below { T (all_below 8380417 f.new) }
 {
     unpack(d, bs, f);
