@@ -14,10 +14,10 @@ pub fn expand_mask<H: Hash>(p: DsaSet, rho: &[u8], n: u16, f: &mut [u32; 256])
     ensures value { f.new ≡ expand_mask H.Hash.hashes (dsa_numbers p) rho.now n }
     ensures below { T (all_below 8380417 f.new) }
 {
-    let d = p.gamma1_bits + 1;
+    let d = p.z_bits();
     let counter = [(n % 256) as u8, (n / 256) as u8];
     let mut bytes = [0u8; 640];
-    let part = &mut bytes[0..32 * d];
+    let part = &mut bytes[0..32 * d.bits];
     H::shake256_into(rho, &counter, part);
     bit_unpack(d, 1u32 << p.gamma1_bits, part, f);
 }
