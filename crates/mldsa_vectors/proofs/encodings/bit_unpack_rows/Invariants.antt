@@ -4,4 +4,4 @@ use Rattle.mldsa_laws.proofs.RowLoops.{RowsDone}
 use Rattle.mldsa_vectors.proofs.encodings.bit_unpack_rows.Given as goal
 
 abbrev pub invariant-loop-i : goal.invariant-loop-i
-invariant-loop-i l = RowsDone 8380417 (λ i. bit_unpack l.d l.b (take (32 * l.d) (drop (l.start + 32 * l.d * i) l.bs))) l.initial.v l.i l.v
+invariant-loop-i l = RowsDone 8380417 (λ i. bit_unpack l.d.bits l.b (take (32 * l.d.bits) (drop (l.start + 32 * l.d.bits * i) l.bs))) l.initial.v l.i l.v
