@@ -1,6 +1,6 @@
 -- Entries of the matrix along a row and down a column, and sums of products of rows that are known.
-use Rattle.std.proofs.Common.{◌≡◌, ℕ, ◌+◌, ◌*◌, ◌<◌, ◌≤◌, List, ap, ◌∙◌, ap₂, arith}
-use Rattle.std.proofs.lemmas.Nat.{mul-le, mul-add-lt, mod-mul-add, div-mul-add}
+use Rattle.std.proofs.Common.{◌≡◌, ℕ, ◌+◌, ◌*◌, ◌<◌, List, ap, ◌∙◌, ap₂, arith}
+use Rattle.std.proofs.lemmas.Nat.{mul-add-lt, mod-mul-add, div-mul-add}
 use Rattle.standards.specs.Lists.{row_at}
 use Rattle.standards.specs.Ring.{sum_p}
 use Rattle.standards.specs.Hashes.{Hashes}
@@ -9,9 +9,6 @@ use Rattle.standards.specs.MlKem.{matrix}
 use Rattle.algebra.specs.RowArrays.{RowsAre}
 use Rattle.algebra.proofs.PolySums.{sum_p-same}
 use Rattle.kpke.specs.Matrix.{entry_at}
-
-pub square : (k : ℕ) → k ≤ 4 → k * k ≤ 16
-square k h = mul-le k k 4 4 h h
 
 pub along : (k i j : ℕ) → i < k → j < k → k * i + 1 * j < k * k
 along k i j h l = omega (arith, mul-add-lt i k j k h l)

@@ -1,3 +1,2 @@
 pub mod Entries
 mod Texts
-mod SetWidths

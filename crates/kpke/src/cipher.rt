@@ -18,20 +18,16 @@ use ring::transform::{ntt, ntt_inverse};
 use sets::types::KemSet;
 
 // The rows of u: column i of the matrix times y, and noise, compressed.
-fn u_rows<H: Hash>(
-    p: KemSet,
-    r: &[u8],
-    a: &[[u16; 256]; 16],
-    y: &[[u16; 256]; 4],
-    u: &mut [[u16; 256]; 4],
-)
+fn u_rows<H: Hash>(p: KemSet, r: &[u8], a: &[[u16; 256]], y: &[[u16; 256]], u: &mut [[u16; 256]])
+    requires matrix { length a.now ≡ p.k * p.k }
+    requires rows { (length y.now ≡ p.k) × (length u.old ≡ p.k) }
     requires left { RowsBelow 3329 (p.k * p.k) a.now }
     requires right { RowsBelow 3329 p.k y.now }
     ensures { RowsAre p.k (u_row H.Hash.hashes p.k p.eta2 p.du r.now a.now y.now) u.new }
 {
-    for i in 0..p.k {
+    for i in 0..u.len() {
         let mut f = [0u16; 256];
-        dot(a, i, p.k, y, p.k, &mut f);
+        dot(a, i, p.k, y, &mut f);
         ntt_inverse(&mut f);
         let mut e = [0u16; 256];
         small_poly::<H>(p.eta2, r, (p.k + i) as u8, &mut e);
@@ -45,16 +41,17 @@ fn u_rows<H: Hash>(
 fn v_poly<H: Hash>(
     p: KemSet,
     r: &[u8],
-    t: &[[u16; 256]; 4],
-    y: &[[u16; 256]; 4],
+    t: &[[u16; 256]],
+    y: &[[u16; 256]],
     m: &[u8; 32],
     f: &mut [u16; 256],
 )
+    requires rows { (length t.now ≡ p.k) × (length y.now ≡ p.k) }
     requires left { RowsBelow 3329 p.k t.now }
     requires right { RowsBelow 3329 p.k y.now }
     ensures { f.new ≡ v_row H.Hash.hashes p.k p.eta2 p.dv r.now t.now y.now m.now }
 {
-    dot(t, 0, 1, y, p.k, f);
+    dot(t, 0, 1, y, f);
     ntt_inverse(f);
     let mut e = [0u16; 256];
     small_poly::<H>(p.eta2, r, (2 * p.k) as u8, &mut e);
@@ -65,49 +62,57 @@ fn v_poly<H: Hash>(
     compress(p.dv, f);
 }
 
-fn write_text(p: KemSet, u: &[[u16; 256]; 4], v: &[u16; 256], text: &mut [u8])
+// The rows of u, and v behind them.
+fn write_text(p: KemSet, u: &[[u16; 256]], v: &[u16; 256], text: &mut [u8])
+    requires rows { length u.now ≡ p.k }
     requires long { length text.old ≡ 32 * p.du * p.k + 32 * p.dv }
     ensures { text.new ≡ joined (tables p.k (λ i. pack p.du (row_at u.now i))) ++ pack p.dv v.now }
 {
     let n = 32 * p.du * p.k;
-    encode_rows(p.du, u, p.k, &mut text[0..n]);
+    encode_rows(p.du, u, &mut text[0..n]);
     pack(p.dv, v, &mut text[n..n + 32 * p.dv]);
 }
 
 // The ciphertext of m with coins r, with the matrix of the key drawn already.
 pub fn encrypt<H: Hash>(
     p: KemSet,
-    a: &[[u16; 256]; 16],
+    a: &[[u16; 256]],
     ek: &[u8],
     m: &[u8; 32],
     r: &[u8],
     text: &mut [u8],
 )
+    requires matrix { length a.now ≡ p.k * p.k }
     requires entries { RowsAre (p.k * p.k) (entry_at H.Hash.hashes p.k (ek_rho (kem_numbers p) ek.now)) a.now }
     requires below { RowsBelow 3329 (p.k * p.k) a.now }
     requires key { 384 * p.k ≤ length ek.now }
     requires long { length text.old ≡ 32 * p.du * p.k + 32 * p.dv }
     ensures { text.new ≡ encrypted H.Hash.hashes (kem_numbers p) ek.now m.now r.now }
 {
-    let mut t = [[0u16; 256]; 4];
-    decode_rows(ek, p.k, &mut t);
-    let mut y = [[0u16; 256]; 4];
-    small_rows::<H>(p.eta1, r, p.k, &mut y);
-    let mut u = [[0u16; 256]; 4];
-    u_rows::<H>(p, r, a, &y, &mut u);
+    let mut t_room = [[0u16; 256]; 4];
+    let t = &mut t_room[0..p.k];
+    decode_rows(ek, t);
+    let mut y_room = [[0u16; 256]; 4];
+    let y = &mut y_room[0..p.k];
+    small_rows::<H>(p.eta1, r, y);
+    let mut u_room = [[0u16; 256]; 4];
+    let u = &mut u_room[0..p.k];
+    u_rows::<H>(p, r, a, y, u);
     let mut v = [0u16; 256];
-    v_poly::<H>(p, r, &t, &y, m, &mut v);
-    write_text(p, &u, &v, text);
+    v_poly::<H>(p, r, t, y, m, &mut v);
+    write_text(p, u, &v, text);
 }
 
 // A ciphertext's rows of u, transformed.
-fn text_rows(p: KemSet, c: &[u8], v: &mut [[u16; 256]; 4])
+#[tactic(auto, using(algebra::proofs::Packing::below_unpack))]
+fn text_rows(p: KemSet, c: &[u8], v: &mut [[u16; 256]])
+    requires rows { length v.old ≡ p.k }
     requires long { 32 * p.du * p.k ≤ length c.now }
     ensures value { RowsAre p.k (λ j. kem_ntt (u_in (kem_numbers p) c.now j)) v.new }
     ensures below { RowsBelow 3329 p.k v.new }
 {
     let w = 32 * p.du;
-    for i in 0..p.k {
+    for i in 0..v.len() {
         let mut f = [0u16; 256];
         unpack(p.du, &c[w * i..w * i + w], &mut f);
         decompress(p.du, &mut f);
@@ -117,17 +122,20 @@ fn text_rows(p: KemSet, c: &[u8], v: &mut [[u16; 256]; 4])
 }
 
 // The message of a ciphertext.
+#[tactic(auto, using(algebra::proofs::Packing::below_unpack))]
 pub fn decrypt(p: KemSet, dk: &[u8], c: &[u8], m: &mut [u8; 32])
     requires key { 384 * p.k ≤ length dk.now }
     requires long { length c.now ≡ 32 * p.du * p.k + 32 * p.dv }
     ensures { m.new ≡ decrypted (kem_numbers p) dk.now c.now }
 {
-    let mut u = [[0u16; 256]; 4];
-    text_rows(p, c, &mut u);
-    let mut s = [[0u16; 256]; 4];
-    decode_rows(dk, p.k, &mut s);
+    let mut u_room = [[0u16; 256]; 4];
+    let u = &mut u_room[0..p.k];
+    text_rows(p, c, u);
+    let mut s_room = [[0u16; 256]; 4];
+    let s = &mut s_room[0..p.k];
+    decode_rows(dk, s);
     let mut f = [0u16; 256];
-    dot(&s, 0, 1, &u, p.k, &mut f);
+    dot(s, 0, 1, u, &mut f);
     ntt_inverse(&mut f);
     let mut v = [0u16; 256];
     let n = 32 * p.du * p.k;

@@ -1,4 +1,4 @@
-// Vectors and matrices as plain rows: drawing, products, encodings.
+// Vectors and matrices as slices of plain rows: drawing, products, encodings.
 ghost use Rattle.std.specs.Prelude.{◌≡◌, ℕ, ◌+◌, ◌*◌, ◌^◌, ◌<◌, ◌≤◌, T, length, OnOk, if◌then◌else◌};
 ghost use Rattle.standards.specs.Lists.{row_at, tables, joined, all_below};
 ghost use Rattle.standards.specs.Bytes.{pack};
@@ -31,13 +31,14 @@ pub fn small_poly<H: Hash>(eta: usize, s: &[u8], n: u8, f: &mut [u16; 256])
     sample_poly_cbd(eta, bytes, f);
 }
 
-// The first k small polynomials of a seed, transformed.
-pub fn small_rows<H: Hash>(eta: usize, s: &[u8], k: usize, v: &mut [[u16; 256]; 4])
-    requires { (2 ≤ eta) × ((eta ≤ 3) × (k ≤ 4)) }
-    ensures value { RowsAre k (λ j. kem_ntt (small H.Hash.hashes eta s.now j)) v.new }
-    ensures below { RowsBelow 3329 k v.new }
+// The first small polynomials of a seed, transformed: as many as v has rows.
+#[tactic(auto, using(algebra::proofs::RowArrays::fill_row))]
+pub fn small_rows<H: Hash>(eta: usize, s: &[u8], v: &mut [[u16; 256]])
+    requires { (2 ≤ eta) × ((eta ≤ 3) × (length v.old ≤ 256)) }
+    ensures value { RowsAre (length v.old) (λ j. kem_ntt (small H.Hash.hashes eta s.now j)) v.new }
+    ensures below { RowsBelow 3329 (length v.old) v.new }
 {
-    for i in 0..k {
+    for i in 0..v.len() {
         let mut f = [0u16; 256];
         small_poly::<H>(eta, s, i as u8, &mut f);
         ntt(&mut f);
@@ -45,45 +46,39 @@ pub fn small_rows<H: Hash>(eta: usize, s: &[u8], k: usize, v: &mut [[u16; 256]; 
     }
 }
 
-// The sum over j below k of the products of row first + step * j of a and row j of s: a row of the matrix, a column, or a vector, times s.
-pub fn dot(
-    a: &[[u16; 256]],
-    first: usize,
-    step: usize,
-    s: &[[u16; 256]],
-    k: usize,
-    out: &mut [u16; 256],
-)
-    requires within { (((j : ℕ) → j < k → first + step * j < length a.now)) × (k ≤ length s.now) }
-    requires left { (j : ℕ) → j < k → T (all_below 3329 (row_at a.now (first + step * j))) }
-    requires right { RowsBelow 3329 k s.now }
-    ensures value { out.new ≡ sum_p 3329 k (λ j. multiply_ntts (row_at a.now (first + step * j)) (row_at s.now j)) }
+// The sum over all rows j of s of the products of row first + step * j of a and row j of s: a row of the matrix, a column, or a vector, times s.
+pub fn dot(a: &[[u16; 256]], first: usize, step: usize, s: &[[u16; 256]], out: &mut [u16; 256])
+    requires within { (j : ℕ) → j < length s.now → first + step * j < length a.now }
+    requires left { (j : ℕ) → j < length s.now → T (all_below 3329 (row_at a.now (first + step * j))) }
+    requires right { RowsBelow 3329 (length s.now) s.now }
+    ensures value { out.new ≡ sum_p 3329 (length s.now) (λ j. multiply_ntts (row_at a.now (first + step * j)) (row_at s.now j)) }
     ensures below { T (all_below 3329 out.new) }
 {
     *out = [0; 256];
-    for j in 0..k {
+    for j in 0..s.len() {
         multiply_add(out, &a[first + step * j], &s[j]);
     }
 }
 
-// The first k rows, d bits for each number.
-pub fn encode_rows(d: usize, v: &[[u16; 256]; 4], k: usize, out: &mut [u8])
-    requires { (T (kem_width d)) × ((d ≤ 12) × ((k ≤ 4) × (length out.old ≡ 32 * d * k))) }
-    ensures { out.new ≡ joined (tables k (λ i. pack d (row_at v.now i))) }
+// The rows one after the other, d bits for each number.
+#[tactic(auto, using(algebra::proofs::RowArrays::put_row, algebra::proofs::RowArrays::joined_none))]
+pub fn encode_rows(d: usize, v: &[[u16; 256]], out: &mut [u8])
+    requires { (T (kem_width d)) × ((d ≤ 12) × (length out.old ≡ 32 * d * length v.now)) }
+    ensures { out.new ≡ joined (tables (length v.now) (λ i. pack d (row_at v.now i))) }
 {
     let w = 32 * d;
-    for i in 0..k {
+    for i in 0..v.len() {
         pack(d, &v[i], &mut out[w * i..w * i + w]);
     }
 }
 
-// The k rows of a key.
-pub fn decode_rows(key: &[u8], k: usize, v: &mut [[u16; 256]; 4])
-    requires { (k ≤ 4) × (384 * k ≤ length key.now) }
-    ensures value { RowsAre k (key_row key.now) v.new }
-    ensures below { RowsBelow 3329 k v.new }
+// The first rows of a key: as many as v has.
+pub fn decode_rows(key: &[u8], v: &mut [[u16; 256]])
+    requires { 384 * length v.old ≤ length key.now }
+    ensures value { RowsAre (length v.old) (key_row key.now) v.new }
+    ensures below { RowsBelow 3329 (length v.old) v.new }
 {
-    for i in 0..k {
+    for i in 0..v.len() {
         let mut f = [0u16; 256];
         byte_decode_12(&key[384 * i..384 * i + 384], &mut f);
         v[i] = f;
@@ -91,12 +86,14 @@ pub fn decode_rows(key: &[u8], k: usize, v: &mut [[u16; 256]; 4])
 }
 
 // The matrix of rho, row by row with stride k, if every draw is full. If not, nothing is said of a.
-pub fn expand<H: Hash>(p: KemSet, rho: &[u8], a: &mut [[u16; 256]; 16]) -> Result<(), Refusal>
+#[tactic(auto, using(algebra::proofs::RowArrays::full_all))]
+pub fn expand<H: Hash>(p: KemSet, rho: &[u8], a: &mut [[u16; 256]]) -> Result<(), Refusal>
+    requires { length a.old ≡ p.k * p.k }
     ensures drawn { verdict_of result ≡ (if matrix_drawn H.Hash.hashes (kem_numbers p) rho.now then 0 else 4) }
     ensures value { OnOk result (RowsAre (p.k * p.k) (entry_at H.Hash.hashes p.k rho.now) a.new) }
     ensures below { OnOk result (RowsBelow 3329 (p.k * p.k) a.new) }
 {
-    for n in 0..p.k * p.k {
+    for n in 0..a.len() {
         let entry = [(n % p.k) as u8, (n / p.k) as u8];
         a[n] = sample_ntt::<H>(rho, &entry).ok_or(Refusal::Draw)?;
     }

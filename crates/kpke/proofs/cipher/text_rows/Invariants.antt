@@ -5,4 +5,4 @@ use Rattle.sets.specs.Sets.{kem_numbers}
 use Rattle.kpke.proofs.cipher.text_rows.Given as goal
 
 abbrev pub invariant-loop-i : goal.invariant-loop-i
-invariant-loop-i l = RowsFilled 4 3329 (λ j. ntt (u_in (kem_numbers l.p) l.c j)) l.i l.v
+invariant-loop-i l = RowsFilled l.p.k 3329 (λ j. ntt (u_in (kem_numbers l.p) l.c j)) l.i l.v

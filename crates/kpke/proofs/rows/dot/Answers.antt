@@ -1,7 +1,6 @@
-use Rattle.std.proofs.Common.{ℕ, ◌+◌, ◌*◌, List, refl, ap, ◌∙◌, arith}
-use Rattle.standards.specs.Lists.{row_at, all_below}
+use Rattle.std.proofs.Common.{refl, ap, ◌∙◌, arith}
+use Rattle.standards.specs.Lists.{all_below}
 use Rattle.standards.specs.Ring.{add_p}
-use Rattle.standards.specs.MlKemParts.{multiply_ntts}
 use Rattle.algebra.proofs.PolySums.{sum_p_none, sum_p_more}
 use Rattle.kpke.proofs.rows.dot.Goals as goal
 
@@ -11,5 +10,4 @@ loop-j-init c = (refl, tt, sum_p_none 3329 _)
 
 pub loop-j-preserved : goal.loop-j-preserved
 loop-j-preserved c =
-    let f : ℕ → List ℕ = λ j. multiply_ntts (row_at c.args.a.now (c.args.first + c.args.step * j)) (row_at c.args.s.now j) in
-    (omega arith, c.multiply_add.ensures.below, c.multiply_add.ensures.value ∙ (ap (add_p 3329 (f c.loop-j.j)) c.loop-j.invariant.2 ∙ sum_p_more 3329 c.loop-j.j f))
+    (omega arith, c.multiply_add.ensures.below, c.multiply_add.ensures.value ∙ (ap (add_p 3329 _) c.loop-j.invariant.2 ∙ sum_p_more 3329 c.loop-j.j _))

@@ -1,4 +1,4 @@
-use Rattle.std.proofs.Common.{◌≡◌, ℕ, ◌<◌, length}
+use Rattle.std.proofs.Common.{◌≡◌, ℕ, ◌*◌, ◌<◌, length}
 use Rattle.algebra.specs.RowArrays.{RowsFilled}
 use Rattle.kpke.specs.Matrix.{entry_at}
 use Rattle.kpke.proofs.rows.expand.Given as goal
@@ -6,4 +6,4 @@ use Rattle.kpke.proofs.rows.expand.Given as goal
 abbrev pub invariant-loop-n : goal.invariant-loop-n
 invariant-loop-n g l =
     let f = entry_at g.H.Hash.hashes l.p.k l.rho in
-    RowsFilled 16 3329 f l.n l.a × ((m : ℕ) → m < l.n → length (f m) ≡ 256)
+    RowsFilled (l.p.k * l.p.k) 3329 f l.n l.a × ((m : ℕ) → m < l.n → length (f m) ≡ 256)
