@@ -18,9 +18,10 @@ fn repacked(p: KemSet, ek: &[u8], room: &mut [u8]) -> bool
     requires { (384 * p.k ≤ length ek.now) × (length room.old ≡ 384 * p.k) }
     ensures { result ≡ same (joined (tables p.k (λ i. pack 12 (key_row ek.now i)))) (take (384 * p.k) ek.now) }
 {
-    let mut t = [[0u16; 256]; 4];
-    decode_rows(ek, p.k, &mut t);
-    encode_rows(12, &t, p.k, room);
+    let mut t_room = [[0u16; 256]; 4];
+    let t = &mut t_room[0..p.k];
+    decode_rows(ek, t);
+    encode_rows(12, t, room);
     differ(room, &ek[0..384 * p.k]) == 0
 }
 
@@ -39,8 +40,9 @@ pub fn check_ek(p: KemSet, ek: &[u8]) -> Result<(), Refusal>
 }
 
 // The matrix of an encapsulation key, if every draw is full.
-pub fn expand_key<H: Hash>(p: KemSet, ek: &[u8], a: &mut [[u16; 256]; 16]) -> Result<(), Refusal>
-    requires { length ek.now ≡ 384 * p.k + 32 }
+pub fn expand_key<H: Hash>(p: KemSet, ek: &[u8], a: &mut [[u16; 256]]) -> Result<(), Refusal>
+    requires key { length ek.now ≡ 384 * p.k + 32 }
+    requires matrix { length a.old ≡ p.k * p.k }
     ensures drawn { verdict_of result ≡ (if matrix_drawn H.Hash.hashes (kem_numbers p) (ek_rho (kem_numbers p) ek.now) then 0 else 4) }
     ensures value { OnOk result (RowsAre (p.k * p.k) (entry_at H.Hash.hashes p.k (ek_rho (kem_numbers p) ek.now)) a.new) }
     ensures below { OnOk result (RowsBelow 3329 (p.k * p.k) a.new) }

@@ -32,17 +32,19 @@ fn key_seeds<H: Hash>(p: KemSet, d: &[u8; 32], rho: &mut [u8; 32], sigma: &mut [
 fn t_rows<H: Hash>(
     p: KemSet,
     sigma: &[u8],
-    a: &[[u16; 256]; 16],
-    s: &[[u16; 256]; 4],
-    t: &mut [[u16; 256]; 4],
+    a: &[[u16; 256]],
+    s: &[[u16; 256]],
+    t: &mut [[u16; 256]],
 )
+    requires matrix { length a.now ≡ p.k * p.k }
+    requires rows { (length s.now ≡ p.k) × (length t.old ≡ p.k) }
     requires left { RowsBelow 3329 (p.k * p.k) a.now }
     requires right { RowsBelow 3329 p.k s.now }
     ensures { RowsAre p.k (t_row H.Hash.hashes p.k p.eta1 sigma.now a.now s.now) t.new }
 {
-    for i in 0..p.k {
+    for i in 0..t.len() {
         let mut f = [0u16; 256];
-        dot(a, p.k * i, 1, s, p.k, &mut f);
+        dot(a, p.k * i, 1, s, &mut f);
         let mut e = [0u16; 256];
         small_poly::<H>(p.eta1, sigma, (p.k + i) as u8, &mut e);
         ntt(&mut e);
@@ -52,21 +54,23 @@ fn t_rows<H: Hash>(
 }
 
 // Packed rows, and rho behind them.
-fn write_ek(k: usize, t: &[[u16; 256]; 4], rho: &[u8], ek: &mut [u8])
-    requires { (k ≤ 4) × ((length rho.now ≡ 32) × (length ek.old ≡ 384 * k + 32)) }
-    ensures { ek.new ≡ joined (tables k (λ i. pack 12 (row_at t.now i))) ++ rho.now }
+fn write_ek(t: &[[u16; 256]], rho: &[u8], ek: &mut [u8])
+    requires { (length rho.now ≡ 32) × (length ek.old ≡ 384 * length t.now + 32) }
+    ensures { ek.new ≡ joined (tables (length t.now) (λ i. pack 12 (row_at t.now i))) ++ rho.now }
 {
-    encode_rows(12, t, k, &mut ek[0..384 * k]);
+    let k = t.len();
+    encode_rows(12, t, &mut ek[0..384 * k]);
     ek[384 * k..384 * k + 32].copy_from_slice(rho);
 }
 
 // Packed rows, the encapsulation key, its hash and z behind them.
-fn write_dk<H: Hash>(k: usize, s: &[[u16; 256]; 4], ek: &[u8], z: &[u8; 32], dk: &mut [u8])
-    requires { (k ≤ 4) × ((length ek.now ≡ 384 * k + 32) × (length dk.old ≡ 768 * k + 96)) }
-    ensures { dk.new ≡ joined (tables k (λ i. pack 12 (row_at s.now i))) ++ (ek.now ++ (H.Hash.hashes.sha3_256 ek.now ++ z.now)) }
+fn write_dk<H: Hash>(s: &[[u16; 256]], ek: &[u8], z: &[u8; 32], dk: &mut [u8])
+    requires { (length ek.now ≡ 384 * length s.now + 32) × (length dk.old ≡ 768 * length s.now + 96) }
+    ensures { dk.new ≡ joined (tables (length s.now) (λ i. pack 12 (row_at s.now i))) ++ (ek.now ++ (H.Hash.hashes.sha3_256 ek.now ++ z.now)) }
 {
+    let k = s.len();
     let h = H::sha3_256(ek);
-    encode_rows(12, s, k, &mut dk[0..384 * k]);
+    encode_rows(12, s, &mut dk[0..384 * k]);
     dk[384 * k..768 * k + 32].copy_from_slice(ek);
     dk[768 * k + 32..768 * k + 64].copy_from_slice(&h);
     dk[768 * k + 64..768 * k + 96].copy_from_slice(z);
@@ -89,25 +93,23 @@ pub fn key_gen<H: Hash>(
     let mut rho = [0u8; 32];
     let mut sigma = [0u8; 32];
     key_seeds::<H>(p, d, &mut rho, &mut sigma);
-    let mut a = [[0u16; 256]; 16];
-    expand::<H>(p, &rho, &mut a)?;
-    let mut s = [[0u16; 256]; 4];
-    small_rows::<H>(p.eta1, &sigma, p.k, &mut s);
-    let mut t = [[0u16; 256]; 4];
-    t_rows::<H>(p, &sigma, &a, &s, &mut t);
-    write_ek(p.k, &t, &rho, ek);
-    write_dk::<H>(p.k, &s, ek, z, dk);
+    let mut a_room = [[0u16; 256]; 16];
+    let a = &mut a_room[0..p.k * p.k];
+    expand::<H>(p, &rho, a)?;
+    let mut s_room = [[0u16; 256]; 4];
+    let s = &mut s_room[0..p.k];
+    small_rows::<H>(p.eta1, &sigma, s);
+    let mut t_room = [[0u16; 256]; 4];
+    let t = &mut t_room[0..p.k];
+    t_rows::<H>(p, &sigma, a, s, t);
+    write_ek(t, &rho, ek);
+    write_dk::<H>(s, ek, z, dk);
     Ok(())
 }
 
 // The key of a ciphertext, with the matrix drawn already. The ciphertext is made again and compared whole, and the key is chosen by a mask.
-pub fn decapsulate<H: Hash>(
-    p: KemSet,
-    a: &[[u16; 256]; 16],
-    dk: &[u8],
-    c: &[u8],
-    key: &mut [u8; 32],
-)
+pub fn decapsulate<H: Hash>(p: KemSet, a: &[[u16; 256]], dk: &[u8], c: &[u8], key: &mut [u8; 32])
+    requires matrix { length a.now ≡ p.k * p.k }
     requires entries { RowsAre (p.k * p.k) (entry_at H.Hash.hashes p.k (ek_rho (kem_numbers p) (dk_ek (kem_numbers p) dk.now))) a.now }
     requires below { RowsBelow 3329 (p.k * p.k) a.now }
     requires secret { length dk.now ≡ 768 * p.k + 96 }

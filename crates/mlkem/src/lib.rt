@@ -51,11 +51,12 @@ pub fn encapsulate<H: Hash>(
         return Err(Refusal::Length);
     }
     check_ek(p, ek)?;
-    let mut a = [[0u16; 256]; 16];
-    expand_key::<H>(p, ek, &mut a)?;
+    let mut room = [[0u16; 256]; 16];
+    let a = &mut room[0..p.k * p.k];
+    expand_key::<H>(p, ek, a)?;
     let g = key_and_coins::<H>(ek, m);
     key.copy_from_slice(&g[0..32]);
-    encrypt::<H>(p, &a, ek, m, &g[32..64], text);
+    encrypt::<H>(p, a, ek, m, &g[32..64], text);
     Ok(())
 }
 
@@ -71,8 +72,9 @@ pub fn decapsulate<H: Hash>(set: u8, dk: &[u8], c: &[u8], key: &mut [u8; 32]) ->
     if !same_hash::<H>(p, dk) {
         return Err(Refusal::Key);
     }
-    let mut a = [[0u16; 256]; 16];
-    expand_key::<H>(p, encapsulation_key(p, dk), &mut a)?;
-    kem::decapsulate::<H>(p, &a, dk, c, key);
+    let mut room = [[0u16; 256]; 16];
+    let a = &mut room[0..p.k * p.k];
+    expand_key::<H>(p, encapsulation_key(p, dk), a)?;
+    kem::decapsulate::<H>(p, a, dk, c, key);
     Ok(())
 }

@@ -17,6 +17,7 @@ encrypt-requires g c =
     let k = c.args.p.k in
     let dk = c.args.dk.now in
     record {
+      matrix = c.requires.matrix;
       entries = subst (λ (x : List ℕ). RowsAre (k * k) (entry_at g.H.Hash.hashes k (ek_rho (kem_numbers c.args.p) x)) c.args.a.now) (sym (part_is dk (384 * k) (384 * k + 32))) c.requires.entries;
       below = c.requires.below;
       key = simp (length-take, length-drop) (omega arith);
