@@ -1,21 +1,18 @@
-// ML-KEM.KeyGen and ML-KEM.Decaps for keys and ciphertexts of the right length.
+// ML-KEM.KeyGen for keys of the right length.
 ghost use Rattle.std.specs.Prelude.{◌≡◌, ◌+◌, ◌*◌, ◌≤◌, ◌++◌, length, if◌then◌else◌};
 ghost use Rattle.standards.specs.Lists.{row_at, tables, joined};
 ghost use Rattle.standards.specs.Bytes.{pack};
 ghost use Rattle.standards.specs.Hashes.{Hashes};
-ghost use Rattle.standards.specs.MlKem.{matrix_drawn, rho_of, sigma_of, ek_of, dk_of, ek_rho, dk_ek, decaps};
+ghost use Rattle.standards.specs.MlKem.{matrix_drawn, rho_of, sigma_of, ek_of, dk_of};
 ghost use Rattle.algebra.specs.RowArrays.{RowsBelow, RowsAre};
 ghost use Rattle.standards.specs.Calls.{after};
 ghost use Rattle.sets.specs.Sets.{kem_numbers, verdict_of};
-ghost use Rattle.kpke.specs.Matrix.{entry_at};
 ghost use Rattle.mlkem.specs.PublicRows.{t_row};
 
 use hash::Hash;
-use kpke::cipher::{decrypt, encrypt};
 use kpke::rows::{dot, encode_rows, expand, small_poly, small_rows};
 use ring::pointwise::add;
 use ring::transform::ntt;
-use select::{choose, differ};
 use sets::types::{KemSet, Refusal};
 
 // G of d and the byte k, cut in two.
@@ -105,33 +102,4 @@ pub fn key_gen<H: Hash>(
     write_ek(t, &rho, ek);
     write_dk::<H>(s, ek, z, dk);
     Ok(())
-}
-
-// The key of a ciphertext, with the matrix drawn already. The ciphertext is made again and compared whole, and the key is chosen by a mask.
-pub fn decapsulate<H: Hash>(p: KemSet, a: &[[u16; 256]], dk: &[u8], c: &[u8], key: &mut [u8; 32])
-    requires matrix { length a.now ≡ p.k * p.k }
-    requires entries { RowsAre (p.k * p.k) (entry_at H.Hash.hashes p.k (ek_rho (kem_numbers p) (dk_ek (kem_numbers p) dk.now))) a.now }
-    requires below { RowsBelow 3329 (p.k * p.k) a.now }
-    requires secret { length dk.now ≡ 768 * p.k + 96 }
-    requires long { length c.now ≡ 32 * p.du * p.k + 32 * p.dv }
-    ensures { key.new ≡ decaps H.Hash.hashes (kem_numbers p) dk.now c.now }
-{
-    let k = p.k;
-    let mut m = [0u8; 32];
-    decrypt(p, dk, c, &mut m);
-    let g = H::sha3_512(&m, &dk[768 * k + 32..768 * k + 32 + 32]);
-    let mut room = [0u8; 1568];
-    let again = &mut room[0..c.len()];
-    encrypt::<H>(
-        p,
-        a,
-        &dk[384 * k..384 * k + (384 * k + 32)],
-        &m,
-        &g[32..64],
-        again,
-    );
-    let mut other = [0u8; 32];
-    H::shake256_into(&dk[768 * k + 64..768 * k + 64 + 32], c, &mut other);
-    key.copy_from_slice(&g[0..32]);
-    choose(differ(c, again), key, &other);
 }

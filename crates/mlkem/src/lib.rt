@@ -7,11 +7,11 @@ ghost use Rattle.standards.specs.MlKem.{ek_of, dk_of, encaps_key, encaps_text, d
 ghost use Rattle.standards.specs.Calls.{kem_of, kem_keys_verdict, encaps_verdict, decaps_verdict, after};
 ghost use Rattle.sets.specs.Sets.{verdict_of};
 
-pub mod checks;
 pub mod kem;
+pub mod key_types;
 
-use checks::{check_ek, encapsulation_key, expand_key, key_and_coins, same_hash};
 use hash::Hash;
+use key_types::{DecapsulationKey, EncapsulationKey, key_and_coins};
 use kpke::cipher::encrypt;
 use sets::types::{KemSet, Refusal};
 
@@ -50,13 +50,13 @@ pub fn encapsulate<H: Hash>(
     if text.len() != p.text_length() {
         return Err(Refusal::Length);
     }
-    check_ek(p, ek)?;
+    let ek = EncapsulationKey::new(p, ek)?;
     let mut room = [[0u16; 256]; 16];
     let a = &mut room[0..p.k * p.k];
-    expand_key::<H>(p, ek, a)?;
-    let g = key_and_coins::<H>(ek, m);
+    ek.expand::<H>(a)?;
+    let g = key_and_coins::<H>(ek.bytes, m);
     key.copy_from_slice(&g[0..32]);
-    encrypt::<H>(p, a, ek, m, &g[32..64], text);
+    encrypt::<H>(p, a, ek.bytes, m, &g[32..64], text);
     Ok(())
 }
 
@@ -66,15 +66,13 @@ pub fn decapsulate<H: Hash>(set: u8, dk: &[u8], c: &[u8], key: &mut [u8; 32]) ->
     ensures key { key.new ≡ after (verdict_of result) (decaps H.Hash.hashes (kem_of set) dk.now c.now) key.old }
 {
     let p = KemSet::try_from(set)?;
-    if dk.len() != p.dk_length() || c.len() != p.text_length() {
+    if c.len() != p.text_length() {
         return Err(Refusal::Length);
     }
-    if !same_hash::<H>(p, dk) {
-        return Err(Refusal::Key);
-    }
+    let dk = DecapsulationKey::new::<H>(p, dk)?;
     let mut room = [[0u16; 256]; 16];
     let a = &mut room[0..p.k * p.k];
-    expand_key::<H>(p, encapsulation_key(p, dk), a)?;
-    kem::decapsulate::<H>(p, a, dk, c, key);
+    dk.encapsulation_key().expand::<H>(a)?;
+    dk.decapsulate::<H>(a, c, key);
     Ok(())
 }

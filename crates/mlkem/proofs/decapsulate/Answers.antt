@@ -1,18 +1,20 @@
-use Rattle.std.proofs.Common.{ℕ, cond, List, sym, ap, ◌∙◌}
+use Rattle.std.proofs.Common.{ℕ, cond, List, ap, ◌∙◌, ap₂}
 use Rattle.standards.specs.MlKemParts.{KemSet}
-use Rattle.standards.specs.MlKem.{decaps, matrix_drawn, ek_rho}
+use Rattle.standards.specs.MlKem.{decaps, matrix_drawn, dk_ek, ek_rho}
 use Rattle.sets.specs.Sets.{kem_numbers}
 use Rattle.mlkem.proofs.Verdicts.{decaps_goes, passed, drawn}
 use Rattle.mlkem.proofs.decapsulate.Goals as goal
 
-pub returns : goal.returns
-returns g c =
-    let h = g.H.Hash.hashes in
-    let p = kem_numbers c.in_ok-p.p in
-    let dk = c.args.dk.now in
-    let is = c.in_ok-p.ensures.set in
-    record {
-      verdict = decaps_goes h c.args.set dk c.args.c.now p is (passed _ c.in_ok-p.ensures.verdict)
-          (c.if-dk-dk_length.false ∙ c.dk_length.ensures.value) (c.if-c-text_length.false ∙ c.text_length.ensures.value) (sym c.if-not-same_hash.ensures) (drawn _ (c.in_ok-expand_key.ensures.drawn ∙ ap (λ (x : List ℕ). cond (matrix_drawn h p (ek_rho p x)) 0 4) c.encapsulation_key.ensures.value));
-      key = c.decapsulate.ensures ∙ ap (λ (u : KemSet). decaps h u dk c.args.c.now) is;
-    }
+pub returns-clause-verdict : goal.returns-clause-verdict
+returns-clause-verdict g c =
+    let p = c.in_ok-p.ensures in
+    let dk = c.in_ok-dk.ensures in
+    let ek = c.encapsulation_key.ensures in
+    let verdict = λ (u : KemSet) (x : List ℕ). cond (matrix_drawn g.H.Hash.hashes u (ek_rho u x)) 0 4 in
+    decaps_goes g.H.Hash.hashes c.args.set c.args.dk.now c.args.c.now _ p.set (passed _ p.verdict) (c.if-c-text_length.false ∙ c.text_length.ensures.value) dk.verdict
+    (drawn _ (c.in_ok-expand.ensures.drawn ∙ (ap₂ verdict (ap kem_numbers ek.set) ek.bytes ∙ ap₂ (λ u x. verdict u (dk_ek u x)) (ap kem_numbers dk.set) dk.bytes)))
+
+pub returns-clause-key : goal.returns-clause-key
+returns-clause-key g c =
+    let dk = c.in_ok-dk.ensures in
+    c.decapsulate.ensures ∙ ap₂ (λ (u : KemSet) (x : List ℕ). decaps g.H.Hash.hashes u x c.args.c.now) (ap kem_numbers dk.set ∙ c.in_ok-p.ensures.set) dk.bytes

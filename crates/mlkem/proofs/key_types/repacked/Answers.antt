@@ -2,7 +2,7 @@ use Rattle.std.proofs.Common.{◌≡◌, ◌-◌, ◌*◌, length, take, ap, ◌
 use Rattle.standards.specs.Lists.{same}
 use Rattle.standards.specs.Bytes.{pack}
 use Rattle.algebra.proofs.RowArrays.{joined_same}
-use Rattle.mlkem.proofs.checks.repacked.Goals as goal
+use Rattle.mlkem.proofs.key_types.repacked.Goals as goal
 
 pub returns : goal.returns
 returns c =
