@@ -1,3 +1,4 @@
+mod Halves
 mod KeyRows
 mod Opening
 mod Verdicts

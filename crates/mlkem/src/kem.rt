@@ -16,6 +16,7 @@ use ring::transform::ntt;
 use sets::types::{KemSet, Refusal};
 
 // G of d and the byte k, cut in two.
+#[tactic(auto, using(crate::proofs::Halves::second_half))]
 fn key_seeds<H: Hash>(p: KemSet, d: &[u8; 32], rho: &mut [u8; 32], sigma: &mut [u8; 32])
     ensures rho { rho.new ≡ rho_of H.Hash.hashes (kem_numbers p) d.now }
     ensures sigma { sigma.new ≡ sigma_of H.Hash.hashes (kem_numbers p) d.now }

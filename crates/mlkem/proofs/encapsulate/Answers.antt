@@ -1,8 +1,8 @@
-use Rattle.std.proofs.Common.{ℕ, cond, List, drop, ap, ◌∙◌, ap₂, arith, length-drop}
-use Rattle.std.proofs.lemmas.List.{take_all}
+use Rattle.std.proofs.Common.{ℕ, cond, List, drop, ap, ◌∙◌, ap₂, arith}
 use Rattle.standards.specs.MlKemParts.{KemSet}
 use Rattle.standards.specs.MlKem.{matrix_drawn, ek_rho, encrypt, encaps_text}
 use Rattle.sets.specs.Sets.{kem_numbers}
+use Rattle.mlkem.proofs.Halves.{second_half}
 use Rattle.mlkem.proofs.Verdicts.{encaps_goes, passed, key_passed, drawn}
 use Rattle.mlkem.proofs.encapsulate.Goals as goal
 
@@ -17,6 +17,6 @@ pub returns-clause-text : goal.returns-clause-text
 returns-clause-text g c =
     let h = g.H.Hash.hashes in
     let m = c.args.m.now in
-    let out = c.key_and_coins-g.result in
-    let coins = take_all 32 (drop 32 out) (simp length-drop (omega arith)) ∙ ap (drop 32) c.key_and_coins-g.ensures in
-    c.encrypt.ensures ∙ (ap (encrypt h _ _ m) coins ∙ ap₂ (λ (u : KemSet) (x : List ℕ). encaps_text h u x m) c.in_ok-p.ensures.set c.in_ok-ek.ensures.bytes)
+    c.encrypt.ensures ∙
+    (ap (encrypt h _ _ m) (second_half c.key_and_coins-g.result (omega arith) ∙ ap (drop 32) c.key_and_coins-g.ensures) ∙
+    ap₂ (λ (u : KemSet) (x : List ℕ). encaps_text h u x m) c.in_ok-p.ensures.set c.in_ok-ek.ensures.bytes)
