@@ -3,7 +3,7 @@ ghost use Rattle.std.specs.Prelude.{◌≡◌, ◌+◌, ◌*◌, ◌≤◌, leng
 ghost use Rattle.standards.specs.Lists.{same, joined, tables};
 ghost use Rattle.standards.specs.Bytes.{pack};
 ghost use Rattle.standards.specs.Hashes.{Hashes};
-ghost use Rattle.standards.specs.MlKem.{key_row, check_ek, ek_rho, dk_length, matrix_drawn, dk_ek, dk_hash, key_and_coins, decaps};
+ghost use Rattle.standards.specs.MlKem.{key_row, check_ek, ek_rho, dk_length, matrix_drawn, dk_ek, dk_hash, dk_z, key_and_coins, decaps};
 ghost use Rattle.algebra.specs.RowArrays.{RowsBelow, RowsAre};
 ghost use Rattle.sets.specs.Sets.{kem_numbers, verdict_of};
 ghost use Rattle.kpke.specs.Matrix.{entry_at};
@@ -110,14 +110,29 @@ impl<'a> DecapsulationKey<'a> {
         }
     }
 
+    // The hash in it.
+    fn hash(&self) -> &'a [u8]
+        ensures value { result.now ≡ dk_hash (kem_numbers self.now.set) self.now.bytes.now }
+        ensures long { length result.now ≡ 32 }
+    {
+        let k = self.set.k;
+        &self.bytes[768 * k + 32..768 * k + 32 + 32]
+    }
+
+    // The secret in it that a rejected ciphertext's key is made of.
+    fn z(&self) -> &'a [u8]
+        ensures { result.now ≡ dk_z (kem_numbers self.now.set) self.now.bytes.now }
+    {
+        &self.bytes[768 * self.set.k + 64..]
+    }
+
     // Whether the hash in it is that of the encapsulation key in it.
     pub fn same_hash<H: Hash>(&self) -> bool
         ensures { let p = kem_numbers self.now.set in
             result ≡ same (H.Hash.hashes.sha3_256 (dk_ek p self.now.bytes.now)) (dk_hash p self.now.bytes.now) }
     {
-        let k = self.set.k;
         let h = H::sha3_256(self.encapsulation_key().bytes);
-        differ(&h, &self.bytes[768 * k + 32..768 * k + 32 + 32]) == 0
+        differ(&h, self.hash()) == 0
     }
 
     // The key of a ciphertext, with the matrix drawn already. The ciphertext is made again and compared whole, and the key is chosen by a mask.
@@ -129,18 +144,15 @@ impl<'a> DecapsulationKey<'a> {
         requires long { let p = self.now.set in length c.now ≡ 32 * p.du * p.k + 32 * p.dv }
         ensures { key.new ≡ decaps H.Hash.hashes (kem_numbers self.now.set) self.now.bytes.now c.now }
     {
-        let p = self.set;
-        let k = p.k;
-        let dk = self.bytes;
         let ek = self.encapsulation_key();
         let mut m = [0u8; 32];
-        decrypt(p, dk, c, &mut m);
-        let g = H::sha3_512(&m, &dk[768 * k + 32..768 * k + 32 + 32]);
+        decrypt(self.set, self.bytes, c, &mut m);
+        let g = H::sha3_512(&m, self.hash());
         let mut room = [0u8; 1568];
         let again = &mut room[0..c.len()];
-        encrypt::<H>(p, a, ek.bytes, &m, &g[32..64], again);
+        encrypt::<H>(self.set, a, ek.bytes, &m, &g[32..64], again);
         let mut other = [0u8; 32];
-        H::shake256_into(&dk[768 * k + 64..], c, &mut other);
+        H::shake256_into(self.z(), c, &mut other);
         key.copy_from_slice(&g[0..32]);
         choose(differ(c, again), key, &other);
     }
