@@ -51,6 +51,13 @@ impl<'a> EncapsulationKey<'a> {
         Ok(EncapsulationKey { set, bytes })
     }
 
+    // The seed of the matrix in it.
+    fn rho(&self) -> &'a [u8]
+        ensures { result.now ≡ ek_rho (kem_numbers self.now.set) self.now.bytes.now }
+    {
+        &self.bytes[384 * self.set.k..]
+    }
+
     // The matrix of the key, if every draw is full.
     pub fn expand<H: Hash>(&self, a: &mut [[u16; 256]]) -> Result<(), Refusal>
         requires { length a.old ≡ self.now.set.k * self.now.set.k }
@@ -60,7 +67,7 @@ impl<'a> EncapsulationKey<'a> {
             OnOk result (RowsAre (p.k * p.k) (entry_at H.Hash.hashes p.k (ek_rho p self.now.bytes.now)) a.new) }
         ensures below { let k = self.now.set.k in OnOk result (RowsBelow 3329 (k * k) a.new) }
     {
-        expand::<H>(self.set, &self.bytes[384 * self.set.k..], a)
+        expand::<H>(self.set, self.rho(), a)
     }
 }
 
