@@ -1,15 +1,11 @@
--- Which numbers a set may have: those that are within the code's arrays and widths.
+-- Which numbers a set may have: those that are within the code's arrays and widths. The eta of ML-KEM has its fact in its type.
 use Rattle.std.specs.Prelude.{◌≡◌, ℕ, ◌<◌, ◌≤◌, ◌⊎◌, T, eqb}
 use Rattle.std.specs.Coded.{Coded-set, coded_ℕ}
 use Rattle.std.proofs.Common.{inl, inr, sym, ap, ◌∙◌, subst}
 
-pub record KemShape (k eta1 eta2 du dv : ℕ) : Type 0 where
+pub record KemShape (k du dv : ℕ) : Type 0 where
   pub some : 0 < k
   pub few : k ≤ 4
-  pub eta1_low : 2 ≤ eta1
-  pub eta1_high : eta1 ≤ 3
-  pub eta2_low : 2 ≤ eta2
-  pub eta2_high : eta2 ≤ 3
   pub du_low : 10 ≤ du
   pub du_high : du ≤ 11
   pub dv_low : 4 ≤ dv

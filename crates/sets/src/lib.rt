@@ -9,28 +9,28 @@ pub mod dsa_sizes;
 pub mod kem_sizes;
 pub mod types;
 
-use types::{DsaSet, KemSet, Refusal};
+use types::{DsaSet, Eta, KemSet, Refusal};
 
 // ML-KEM-512, -768 and -1024.
 const KEM_SETS: [KemSet; 3] = [
     KemSet {
         k: 2,
-        eta1: 3,
-        eta2: 2,
+        eta1: Eta { value: 3 },
+        eta2: Eta { value: 2 },
         du: 10,
         dv: 4,
     },
     KemSet {
         k: 3,
-        eta1: 2,
-        eta2: 2,
+        eta1: Eta { value: 2 },
+        eta2: Eta { value: 2 },
         du: 10,
         dv: 4,
     },
     KemSet {
         k: 4,
-        eta1: 2,
-        eta2: 2,
+        eta1: Eta { value: 2 },
+        eta2: Eta { value: 2 },
         du: 11,
         dv: 5,
     },

@@ -1,16 +1,24 @@
 // The numbers of a parameter set, and why a call refuses.
+ghost use Rattle.std.specs.Prelude.{◌≤◌};
 ghost use Rattle.std.proofs.Props.{props};
 ghost use Rattle.sets.specs.Shapes.{KemShape, DsaShape, eta_prop, bits_prop, gamma2_prop};
+
+// How many bits are summed for a number of noise, which is from -eta to eta: that many with a plus, and as many with a minus. The sets of ML-KEM have 2 and 3.
+#[derive(Clone, Copy)]
+pub struct Eta {
+    pub value: usize,
+    pub ghost fits: { (2 ≤ value) × (value ≤ 3) },
+}
 
 // The numbers of any set fit the code's arrays and widths: `fits` is proved wherever a set is made.
 #[derive(Clone, Copy)]
 pub struct KemSet {
     pub k: usize,
-    pub eta1: usize,
-    pub eta2: usize,
+    pub eta1: Eta,
+    pub eta2: Eta,
     pub du: usize,
     pub dv: usize,
-    pub ghost fits: { KemShape k eta1 eta2 du dv },
+    pub ghost fits: { KemShape k du dv },
 }
 
 // gamma1 is 2^gamma1_bits.
