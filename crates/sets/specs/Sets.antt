@@ -10,7 +10,7 @@ use Rattle.sets.specs.declared.types.Refusal.TheVariants.{NoSet, Length, Key, Dr
 
 -- the numbers of a set
 abbrev pub kem_numbers : KemSet → KemNumbers
-kem_numbers p = record { k = p.k; eta1 = p.eta1.value; eta2 = p.eta2.value; du = p.du; dv = p.dv }
+kem_numbers p = record { k = p.k; eta1 = p.eta1.value; eta2 = p.eta2.value; du = p.du.bits; dv = p.dv.bits }
 
 abbrev pub dsa_numbers : DsaSet → DsaNumbers
 dsa_numbers p =

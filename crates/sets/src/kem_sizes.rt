@@ -1,33 +1,11 @@
-// What follows from the numbers of a set of ML-KEM: widths, and lengths in bytes.
+// What follows from the numbers of a set of ML-KEM: lengths in bytes.
 ghost use Rattle.std.specs.Prelude.{◌≡◌, ◌+◌, ◌*◌};
 ghost use Rattle.standards.specs.MlKem.{ek_length, dk_length, text_length};
 ghost use Rattle.sets.specs.Sets.{kem_numbers};
 
 use crate::types::KemSet;
-use packing::Width;
-use std::marker::PhantomData;
 
 impl KemSet {
-    // Bits of a number of u, the first part of a ciphertext.
-    pub fn u_bits(self) -> Width<u16>
-        ensures { result.bits ≡ self.du }
-    {
-        Width {
-            bits: self.du,
-            of: PhantomData,
-        }
-    }
-
-    // Bits of a number of v, the second part.
-    pub fn v_bits(self) -> Width<u16>
-        ensures { result.bits ≡ self.dv }
-    {
-        Width {
-            bits: self.dv,
-            of: PhantomData,
-        }
-    }
-
     // Bytes of an encapsulation key.
     pub fn ek_length(self) -> usize
         ensures value { result ≡ ek_length (kem_numbers self) }
@@ -47,8 +25,8 @@ impl KemSet {
     // Bytes of a ciphertext.
     pub fn text_length(self) -> usize
         ensures value { result ≡ text_length (kem_numbers self) }
-        ensures closed { result ≡ 32 * (self.du * self.k + self.dv) }
+        ensures closed { result ≡ 32 * (self.du.bits * self.k + self.dv.bits) }
     {
-        32 * (self.du * self.k + self.dv)
+        32 * (self.du.bits * self.k + self.dv.bits)
     }
 }

@@ -9,6 +9,8 @@ pub mod dsa_sizes;
 pub mod kem_sizes;
 pub mod types;
 
+use packing::Width;
+use std::marker::PhantomData;
 use types::{DsaSet, Eta, KemSet, Refusal};
 
 // ML-KEM-512, -768 and -1024.
@@ -17,22 +19,40 @@ const KEM_SETS: [KemSet; 3] = [
         k: 2,
         eta1: Eta { value: 3 },
         eta2: Eta { value: 2 },
-        du: 10,
-        dv: 4,
+        du: Width {
+            bits: 10,
+            of: PhantomData,
+        },
+        dv: Width {
+            bits: 4,
+            of: PhantomData,
+        },
     },
     KemSet {
         k: 3,
         eta1: Eta { value: 2 },
         eta2: Eta { value: 2 },
-        du: 10,
-        dv: 4,
+        du: Width {
+            bits: 10,
+            of: PhantomData,
+        },
+        dv: Width {
+            bits: 4,
+            of: PhantomData,
+        },
     },
     KemSet {
         k: 4,
         eta1: Eta { value: 2 },
         eta2: Eta { value: 2 },
-        du: 11,
-        dv: 5,
+        du: Width {
+            bits: 11,
+            of: PhantomData,
+        },
+        dv: Width {
+            bits: 5,
+            of: PhantomData,
+        },
     },
 ];
 

@@ -3,7 +3,10 @@ ghost use Rattle.std.specs.Prelude.{◌≤◌};
 ghost use Rattle.std.proofs.Props.{props};
 ghost use Rattle.sets.specs.Shapes.{KemShape, DsaShape, eta_prop, bits_prop, gamma2_prop};
 
-// How many bits are summed for a number of noise, which is from -eta to eta: that many with a plus, and as many with a minus. The sets of ML-KEM have 2 and 3.
+use packing::Width;
+
+// How many bits are summed for a number of noise, which is from -eta to eta: that many with a plus, and as many with a minus. The sets of ML-KEM
+// have 2 and 3.
 #[derive(Clone, Copy)]
 pub struct Eta {
     pub value: usize,
@@ -16,9 +19,9 @@ pub struct KemSet {
     pub k: usize,
     pub eta1: Eta,
     pub eta2: Eta,
-    pub du: usize,
-    pub dv: usize,
-    pub ghost fits: { KemShape k du dv },
+    pub du: Width<u16>,
+    pub dv: Width<u16>,
+    pub ghost fits: { KemShape k du.bits dv.bits },
 }
 
 // gamma1 is 2^gamma1_bits.
