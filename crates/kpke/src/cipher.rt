@@ -1,4 +1,6 @@
 // K-PKE.Encrypt and K-PKE.Decrypt.
+// Loops go by row: the rows may be secret, and this form lowers to plain code that reads the same places whatever they hold. Rooms are for the
+// largest set, and what is lent of them is as long as the set asks: memory is fixed.
 ghost use Rattle.std.specs.Prelude.{◌≡◌, ◌+◌, ◌*◌, ◌^◌, ◌≤◌, T, ◌++◌, length};
 ghost use Rattle.standards.specs.Lists.{row_at, tables, joined, all_below};
 ghost use Rattle.standards.specs.Bytes.{pack};
@@ -10,7 +12,7 @@ ghost use Rattle.kpke.specs.Matrix.{entry_at, u_row, v_row};
 
 use crate::rows::{decode_rows, dot, encode_rows, small_poly, small_rows};
 use hash::Hash;
-use mlkem_parts::encoding::mu;
+use mlkem_parts::encoding::{MESSAGE_BITS, mu};
 use mlkem_parts::rounding::{compress, decompress};
 use packing::{pack, unpack};
 use ring::pointwise::{add, sub};
@@ -23,7 +25,7 @@ fn u_rows<H: Hash>(p: KemSet, r: &[u8], a: &[[u16; 256]], y: &[[u16; 256]], u: &
     requires rows { (length y.now ≡ p.k) × (length u.old ≡ p.k) }
     requires left { RowsBelow 3329 (p.k * p.k) a.now }
     requires right { RowsBelow 3329 p.k y.now }
-    ensures { RowsAre p.k (u_row H.Hash.hashes p.k p.eta2 p.du r.now a.now y.now) u.new }
+    ensures { RowsAre p.k (u_row H.Hash.hashes p.k p.eta2.value p.du.bits r.now a.now y.now) u.new }
 {
     for i in 0..u.len() {
         let mut f = [0u16; 256];
@@ -49,7 +51,7 @@ fn v_poly<H: Hash>(
     requires rows { (length t.now ≡ p.k) × (length y.now ≡ p.k) }
     requires left { RowsBelow 3329 p.k t.now }
     requires right { RowsBelow 3329 p.k y.now }
-    ensures { f.new ≡ v_row H.Hash.hashes p.k p.eta2 p.dv r.now t.now y.now m.now }
+    ensures { f.new ≡ v_row H.Hash.hashes p.k p.eta2.value p.dv.bits r.now t.now y.now m.now }
 {
     dot(t, 0, 1, y, f);
     ntt_inverse(f);
@@ -65,12 +67,12 @@ fn v_poly<H: Hash>(
 // The rows of u, and v behind them.
 fn write_text(p: KemSet, u: &[[u16; 256]], v: &[u16; 256], text: &mut [u8])
     requires rows { length u.now ≡ p.k }
-    requires long { length text.old ≡ 32 * p.du * p.k + 32 * p.dv }
-    ensures { text.new ≡ joined (tables p.k (λ i. pack p.du (row_at u.now i))) ++ pack p.dv v.now }
+    requires long { length text.old ≡ 32 * p.du.bits * p.k + 32 * p.dv.bits }
+    ensures { text.new ≡ joined (tables p.k (λ i. pack p.du.bits (row_at u.now i))) ++ pack p.dv.bits v.now }
 {
-    let n = 32 * p.du * p.k;
+    let n = 32 * p.du.bits * p.k;
     encode_rows(p.du, u, &mut text[0..n]);
-    pack(p.dv, v, &mut text[n..n + 32 * p.dv]);
+    pack(p.dv, v, &mut text[n..n + 32 * p.dv.bits]);
 }
 
 // The ciphertext of m with coins r, with the matrix of the key drawn already.
@@ -86,7 +88,7 @@ pub fn encrypt<H: Hash>(
     requires entries { RowsAre (p.k * p.k) (entry_at H.Hash.hashes p.k (ek_rho (kem_numbers p) ek.now)) a.now }
     requires below { RowsBelow 3329 (p.k * p.k) a.now }
     requires key { 384 * p.k ≤ length ek.now }
-    requires long { length text.old ≡ 32 * p.du * p.k + 32 * p.dv }
+    requires long { length text.old ≡ 32 * p.du.bits * p.k + 32 * p.dv.bits }
     ensures { text.new ≡ encrypted H.Hash.hashes (kem_numbers p) ek.now m.now r.now }
 {
     let mut t_room = [[0u16; 256]; 4];
@@ -107,11 +109,11 @@ pub fn encrypt<H: Hash>(
 #[tactic(auto, using(algebra::proofs::Packing::below_unpack))]
 fn text_rows(p: KemSet, c: &[u8], v: &mut [[u16; 256]])
     requires rows { length v.old ≡ p.k }
-    requires long { 32 * p.du * p.k ≤ length c.now }
+    requires long { 32 * p.du.bits * p.k ≤ length c.now }
     ensures value { RowsAre p.k (λ j. kem_ntt (u_in (kem_numbers p) c.now j)) v.new }
     ensures below { RowsBelow 3329 p.k v.new }
 {
-    let w = 32 * p.du;
+    let w = 32 * p.du.bits;
     for i in 0..v.len() {
         let mut f = [0u16; 256];
         unpack(p.du, &c[w * i..w * i + w], &mut f);
@@ -125,7 +127,7 @@ fn text_rows(p: KemSet, c: &[u8], v: &mut [[u16; 256]])
 #[tactic(auto, using(algebra::proofs::Packing::below_unpack))]
 pub fn decrypt(p: KemSet, dk: &[u8], c: &[u8], m: &mut [u8; 32])
     requires key { 384 * p.k ≤ length dk.now }
-    requires long { length c.now ≡ 32 * p.du * p.k + 32 * p.dv }
+    requires long { length c.now ≡ 32 * p.du.bits * p.k + 32 * p.dv.bits }
     ensures { m.new ≡ decrypted (kem_numbers p) dk.now c.now }
 {
     let mut u_room = [[0u16; 256]; 4];
@@ -138,10 +140,10 @@ pub fn decrypt(p: KemSet, dk: &[u8], c: &[u8], m: &mut [u8; 32])
     dot(s, 0, 1, u, &mut f);
     ntt_inverse(&mut f);
     let mut v = [0u16; 256];
-    let n = 32 * p.du * p.k;
-    unpack(p.dv, &c[n..n + 32 * p.dv], &mut v);
+    let n = 32 * p.du.bits * p.k;
+    unpack(p.dv, &c[n..n + 32 * p.dv.bits], &mut v);
     decompress(p.dv, &mut v);
     sub(&mut v, &f);
-    compress(1, &mut v);
-    pack(1, &v, m);
+    compress(MESSAGE_BITS, &mut v);
+    pack(MESSAGE_BITS, &v, m);
 }

@@ -1,4 +1,5 @@
 // Vectors and matrices as slices of plain rows: drawing, products, encodings.
+// Loops go by row: the rows may be secret, and this form lowers to plain code that reads the same places whatever they hold.
 ghost use Rattle.std.specs.Prelude.{◌≡◌, ℕ, ◌+◌, ◌*◌, ◌^◌, ◌<◌, ◌≤◌, T, length, OnOk, if◌then◌else◌};
 ghost use Rattle.standards.specs.Lists.{row_at, tables, joined, all_below};
 ghost use Rattle.standards.specs.Bytes.{pack};
@@ -6,7 +7,6 @@ ghost use Rattle.standards.specs.Ring.{sum_p};
 ghost use Rattle.standards.specs.MlKemParts.{ntt as kem_ntt, multiply_ntts};
 ghost use Rattle.standards.specs.MlKem.{small, key_row, matrix_drawn};
 ghost use Rattle.algebra.specs.RowArrays.{RowsBelow, RowsAre};
-ghost use Rattle.packing.specs.Widths.{kem_width};
 ghost use Rattle.sets.specs.Sets.{kem_numbers, verdict_of};
 ghost use Rattle.kpke.specs.Matrix.{entry_at};
 
@@ -14,28 +14,27 @@ use hash::Hash;
 use mlkem_parts::encoding::byte_decode_12;
 use mlkem_parts::noise::sample_poly_cbd;
 use mlkem_parts::uniform::sample_ntt;
-use packing::pack;
+use packing::{Width, pack};
 use ring::kem::multiply_add;
 use ring::transform::ntt;
-use sets::types::{KemSet, Refusal};
+use sets::types::{Eta, KemSet, Refusal};
 
-// Small polynomial number n of a seed: PRF and SamplePolyCBD.
-pub fn small_poly<H: Hash>(eta: usize, s: &[u8], n: u8, f: &mut [u16; 256])
-    requires { (2 ≤ eta) × (eta ≤ 3) }
-    ensures value { f.new ≡ small H.Hash.hashes eta s.now n }
+// Small polynomial number n of a seed: PRF and SamplePolyCBD. The room is for eta 3, since memory is fixed.
+pub fn small_poly<H: Hash>(eta: Eta, s: &[u8], n: u8, f: &mut [u16; 256])
+    ensures value { f.new ≡ small H.Hash.hashes eta.value s.now n }
     ensures below { T (all_below 3329 f.new) }
 {
     let mut room = [0u8; 192];
-    let bytes = &mut room[0..64 * eta];
+    let bytes = &mut room[0..64 * eta.value];
     H::shake256_into(s, &[n], bytes);
     sample_poly_cbd(eta, bytes, f);
 }
 
 // The first small polynomials of a seed, transformed: as many as v has rows.
 #[tactic(auto, using(algebra::proofs::RowArrays::fill_row))]
-pub fn small_rows<H: Hash>(eta: usize, s: &[u8], v: &mut [[u16; 256]])
-    requires { (2 ≤ eta) × ((eta ≤ 3) × (length v.old ≤ 256)) }
-    ensures value { RowsAre (length v.old) (λ j. kem_ntt (small H.Hash.hashes eta s.now j)) v.new }
+pub fn small_rows<H: Hash>(eta: Eta, s: &[u8], v: &mut [[u16; 256]])
+    requires { length v.old ≤ 256 }
+    ensures value { RowsAre (length v.old) (λ j. kem_ntt (small H.Hash.hashes eta.value s.now j)) v.new }
     ensures below { RowsBelow 3329 (length v.old) v.new }
 {
     for i in 0..v.len() {
@@ -62,11 +61,11 @@ pub fn dot(a: &[[u16; 256]], first: usize, step: usize, s: &[[u16; 256]], out: &
 
 // The rows one after the other, d bits for each number.
 #[tactic(auto, using(algebra::proofs::RowArrays::put_row, algebra::proofs::RowArrays::joined_none))]
-pub fn encode_rows(d: usize, v: &[[u16; 256]], out: &mut [u8])
-    requires { (T (kem_width d)) × ((d ≤ 12) × (length out.old ≡ 32 * d * length v.now)) }
-    ensures { out.new ≡ joined (tables (length v.now) (λ i. pack d (row_at v.now i))) }
+pub fn encode_rows(d: Width<u16>, v: &[[u16; 256]], out: &mut [u8])
+    requires { length out.old ≡ 32 * d.bits * length v.now }
+    ensures { out.new ≡ joined (tables (length v.now) (λ i. pack d.bits (row_at v.now i))) }
 {
-    let w = 32 * d;
+    let w = 32 * d.bits;
     for i in 0..v.len() {
         pack(d, &v[i], &mut out[w * i..w * i + w]);
     }
@@ -85,7 +84,7 @@ pub fn decode_rows(key: &[u8], v: &mut [[u16; 256]])
     }
 }
 
-// The matrix of rho, row by row with stride k, if every draw is full. If not, nothing is said of a.
+// The matrix of rho, row by row with stride k, if every draw is full. If not, nothing is said of a. The matrix is public, so the loop walks its rows.
 #[tactic(auto, using(algebra::proofs::RowArrays::full_all))]
 pub fn expand<H: Hash>(p: KemSet, rho: &[u8], a: &mut [[u16; 256]]) -> Result<(), Refusal>
     requires { length a.old ≡ p.k * p.k }
@@ -93,9 +92,9 @@ pub fn expand<H: Hash>(p: KemSet, rho: &[u8], a: &mut [[u16; 256]]) -> Result<()
     ensures value { OnOk result (RowsAre (p.k * p.k) (entry_at H.Hash.hashes p.k rho.now) a.new) }
     ensures below { OnOk result (RowsBelow 3329 (p.k * p.k) a.new) }
 {
-    for n in 0..a.len() {
+    for (n, row) in a.iter_mut().enumerate() {
         let entry = [(n % p.k) as u8, (n / p.k) as u8];
-        a[n] = sample_ntt::<H>(rho, &entry).ok_or(Refusal::Draw)?;
+        *row = sample_ntt::<H>(rho, &entry).ok_or(Refusal::Draw)?;
     }
     Ok(())
 }

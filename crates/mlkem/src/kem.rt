@@ -1,4 +1,6 @@
 // ML-KEM.KeyGen for keys of the right length.
+// Loops go by row: the rows may be secret, and this form lowers to plain code that reads the same places whatever they hold. Rooms are for the
+// largest set, and what is lent of them is as long as the set asks: memory is fixed.
 ghost use Rattle.std.specs.Prelude.{◌≡◌, ◌+◌, ◌*◌, ◌≤◌, ◌++◌, length, if◌then◌else◌};
 ghost use Rattle.standards.specs.Lists.{row_at, tables, joined};
 ghost use Rattle.standards.specs.Bytes.{pack};
@@ -11,6 +13,7 @@ ghost use Rattle.mlkem.specs.PublicRows.{t_row};
 
 use hash::Hash;
 use kpke::rows::{dot, encode_rows, expand, small_poly, small_rows};
+use mlkem_parts::encoding::KEY_BITS;
 use ring::pointwise::add;
 use ring::transform::ntt;
 use sets::types::{KemSet, Refusal};
@@ -38,7 +41,7 @@ fn t_rows<H: Hash>(
     requires rows { (length s.now ≡ p.k) × (length t.old ≡ p.k) }
     requires left { RowsBelow 3329 (p.k * p.k) a.now }
     requires right { RowsBelow 3329 p.k s.now }
-    ensures { RowsAre p.k (t_row H.Hash.hashes p.k p.eta1 sigma.now a.now s.now) t.new }
+    ensures { RowsAre p.k (t_row H.Hash.hashes p.k p.eta1.value sigma.now a.now s.now) t.new }
 {
     for i in 0..t.len() {
         let mut f = [0u16; 256];
@@ -57,7 +60,7 @@ fn write_ek(t: &[[u16; 256]], rho: &[u8], ek: &mut [u8])
     ensures { ek.new ≡ joined (tables (length t.now) (λ i. pack 12 (row_at t.now i))) ++ rho.now }
 {
     let k = t.len();
-    encode_rows(12, t, &mut ek[0..384 * k]);
+    encode_rows(KEY_BITS, t, &mut ek[0..384 * k]);
     ek[384 * k..384 * k + 32].copy_from_slice(rho);
 }
 
@@ -68,7 +71,7 @@ fn write_dk<H: Hash>(s: &[[u16; 256]], ek: &[u8], z: &[u8; 32], dk: &mut [u8])
 {
     let k = s.len();
     let h = H::sha3_256(ek);
-    encode_rows(12, s, &mut dk[0..384 * k]);
+    encode_rows(KEY_BITS, s, &mut dk[0..384 * k]);
     dk[384 * k..768 * k + 32].copy_from_slice(ek);
     dk[768 * k + 32..768 * k + 64].copy_from_slice(&h);
     dk[768 * k + 64..768 * k + 96].copy_from_slice(z);

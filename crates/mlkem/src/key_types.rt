@@ -1,4 +1,4 @@
-// The two keys: lent bytes that travel with their set, and what is read from them.
+// The two keys: lent bytes that travel with their set, and what is read from them. Rooms are for the largest set, since memory is fixed.
 ghost use Rattle.std.specs.Prelude.{◌≡◌, ◌+◌, ◌*◌, ◌≤◌, length, take, OnOk, IfOk, if◌then◌else◌, nat_eq};
 ghost use Rattle.standards.specs.Lists.{same, joined, tables};
 ghost use Rattle.standards.specs.Bytes.{pack};
@@ -11,10 +11,12 @@ ghost use Rattle.kpke.specs.Matrix.{entry_at};
 use hash::Hash;
 use kpke::cipher::{decrypt, encrypt};
 use kpke::rows::{decode_rows, encode_rows, expand};
+use mlkem_parts::encoding::KEY_BITS;
 use select::{choose, differ};
 use sets::types::{KemSet, Refusal};
 
-// Whether the rows of a key, packed again into the room for them, are the same bytes: every number is below q.
+// Whether the rows of a key, packed again into the room for them, are the same bytes: every number is below q. What is in the room afterwards is of
+// no use, so the answer is a `bool`.
 fn repacked(p: KemSet, ek: &[u8], room: &mut [u8]) -> bool
     requires { (384 * p.k ≤ length ek.now) × (length room.old ≡ 384 * p.k) }
     ensures { result ≡ same (joined (tables p.k (λ i. pack 12 (key_row ek.now i)))) (take (384 * p.k) ek.now) }
@@ -22,7 +24,7 @@ fn repacked(p: KemSet, ek: &[u8], room: &mut [u8]) -> bool
     let mut t_room = [[0u16; 256]; 4];
     let t = &mut t_room[0..p.k];
     decode_rows(ek, t);
-    encode_rows(12, t, room);
+    encode_rows(KEY_BITS, t, room);
     differ(room, &ek[0..384 * p.k]) == 0
 }
 
@@ -148,7 +150,7 @@ impl<'a> DecapsulationKey<'a> {
         requires entries { let p = kem_numbers self.now.set in
             RowsAre (p.k * p.k) (entry_at H.Hash.hashes p.k (ek_rho p (dk_ek p self.now.bytes.now))) a.now }
         requires below { let k = self.now.set.k in RowsBelow 3329 (k * k) a.now }
-        requires long { let p = self.now.set in length c.now ≡ 32 * p.du * p.k + 32 * p.dv }
+        requires long { let p = self.now.set in length c.now ≡ 32 * p.du.bits * p.k + 32 * p.dv.bits }
         ensures { key.new ≡ decaps H.Hash.hashes (kem_numbers self.now.set) self.now.bytes.now c.now }
     {
         let ek = self.encapsulation_key();

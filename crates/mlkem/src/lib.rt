@@ -1,5 +1,6 @@
 // ML-KEM over any hashes, one code for the three sets: the calls on lent bytes, by set number. First all checks, then the first write: what is
 // refused leaves every lent byte as it was.
+// A set comes as a number, so that a call can refuse one that there is not.
 #![tactic(auto)]
 
 ghost use Rattle.std.specs.Prelude.{◌≡◌, length};

@@ -1,2 +1,3 @@
+mod Decoding
 mod Numbers
 mod SmallNumbers

@@ -22,6 +22,7 @@ pub const MESSAGE_BITS: Width<u16> = Width {
 };
 
 // Numbers of 12 bits, modulo q.
+#[tactic(auto, using(crate::proofs::Decoding::decode_steps))]
 pub fn byte_decode_12(bs: &[u8], f: &mut [u16; 256])
     requires { length bs.now ≡ 384 }
     ensures value { f.new ≡ byte_decode12 bs.now }
@@ -34,10 +35,11 @@ pub fn byte_decode_12(bs: &[u8], f: &mut [u16; 256])
 }
 
 // Each bit as 0 or 1665, the number farthest from 0.
+#[tactic(auto, using(crate::proofs::Decoding::message_steps))]
 pub fn mu(m: &[u8; 32], f: &mut [u16; 256])
     ensures value { f.new ≡ mu_of m.now }
     ensures below { T (all_below 3329 f.new) }
 {
     unpack(MESSAGE_BITS, m, f);
-    decompress(1, f);
+    decompress(MESSAGE_BITS, f);
 }

@@ -6,9 +6,11 @@ ghost use Rattle.standards.specs.MlKemParts.{sample_poly_cbd};
 ghost use Rattle.mlkem_parts.specs.Bits.{bits_less};
 
 use packing::{Width, unpack};
+use sets::types::Eta;
 use std::marker::PhantomData;
 
 // The number of 2 ETA bits v. Both sums are at most ETA.
+#[tactic(auto, using(crate::proofs::SmallNumbers::sums_whole))]
 fn cbd_number<const ETA: usize>(v: u16) -> u16
     requires { ETA ≤ 3 }
     ensures { result ≡ bits_less ETA v }
@@ -38,12 +40,12 @@ fn cbd_row<const ETA: usize>(bs: &[u8], f: &mut [u16; 256])
 }
 
 // SamplePolyCBD of 64 eta bytes. eta is public: the choice picks a constant for the compiler.
-pub fn sample_poly_cbd(eta: usize, bs: &[u8], f: &mut [u16; 256])
-    requires { (2 ≤ eta) × ((eta ≤ 3) × (length bs.now ≡ 64 * eta)) }
-    ensures value { f.new ≡ sample_poly_cbd eta bs.now }
+pub fn sample_poly_cbd(eta: Eta, bs: &[u8], f: &mut [u16; 256])
+    requires { length bs.now ≡ 64 * eta.value }
+    ensures value { f.new ≡ sample_poly_cbd eta.value bs.now }
     ensures below { T (all_below 3329 f.new) }
 {
-    if eta == 2 {
+    if eta.value == 2 {
         cbd_row::<2>(bs, f)
     } else {
         cbd_row::<3>(bs, f)

@@ -5,5 +5,5 @@ use Rattle.kpke.proofs.cipher.v_poly.Goals as goal
 
 pub returns : goal.returns
 returns g c =
-    c.compress.ensures.value ∙ ap (compress_p c.args.p.dv) (c.add-2.ensures.value ∙ ap₂ (add_p 3329)
+    c.compress.ensures.value ∙ ap (compress_p c.args.p.dv.bits) (c.add-2.ensures.value ∙ ap₂ (add_p 3329)
     (c.add.ensures.value ∙ ap₂ (add_p 3329) (c.ntt_inverse.ensures.value ∙ ap ntt_inv (rw c.requires.rows.1 at c.dot.ensures.value)) c.small_poly.ensures.value) c.mu.ensures.value)

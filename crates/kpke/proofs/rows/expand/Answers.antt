@@ -4,8 +4,8 @@ use Rattle.kpke.specs.Matrix.{entry_at}
 use Rattle.kpke.proofs.rows.expand.Goals as goal
 
 -- the draw of one entry fell short
-pub returns-in_err-a-clause-drawn : goal.returns-in_err-a-clause-drawn
-returns-in_err-a-clause-drawn g c =
+pub returns-in_err-row-clause-drawn : goal.returns-in_err-row-clause-drawn
+returns-in_err-row-clause-drawn g c =
     let k = c.args.p.k in
-    let short = rw c.in_err-a.ensures.ok_part at c.sample_ntt.ensures.drawn in
+    let short = rw c.in_err-row.ensures.ok_part at c.sample_ntt.ensures.drawn in
     rw (not_full (k * k) (entry_at g.H.Hash.hashes k c.args.rho.now) c.loop-n.n (omega arith) short) (search rules)

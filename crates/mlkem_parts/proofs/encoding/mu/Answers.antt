@@ -1,4 +1,4 @@
-use Rattle.std.proofs.Common.{T, sym, ap, ◌∙◌, subst, lit≤}
+use Rattle.std.proofs.Common.{T, sym, ap, ◌∙◌, subst}
 use Rattle.standards.specs.Lists.{all_below}
 use Rattle.standards.specs.Bytes.{bit}
 use Rattle.standards.specs.MlKemParts.{decompress, decompress_p}
@@ -7,7 +7,7 @@ use Rattle.algebra.proofs.Packing.{below_unpack, unpack-bit}
 use Rattle.mlkem_parts.proofs.encoding.mu.Goals as goal
 
 pub decompress-requires : goal.decompress-requires
-decompress-requires c = (lit≤ tt, subst (λ f. T (all_below 2 f)) (sym c.unpack.ensures) (below_unpack 1 256 c.args.m.now))
+decompress-requires c = subst (λ f. T (all_below 2 f)) (sym c.unpack.ensures) (below_unpack 1 256 c.args.m.now)
 
 pub returns : goal.returns
 returns c =

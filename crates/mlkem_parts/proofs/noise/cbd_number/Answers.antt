@@ -1,4 +1,4 @@
-use Rattle.std.proofs.Common.{◌≡◌, ◌+◌, ◌-◌, ◌/◌, ◌%◌, ◌^◌, sym, refl, ap, ◌∙◌, ap₂, arith, bit_and}
+use Rattle.std.proofs.Common.{◌≡◌, ◌+◌, ◌/◌, ◌%◌, ◌^◌, sym, refl, ◌∙◌, ap₂, arith, bit_and}
 use Rattle.std.proofs.lemmas.Nat.{and_mask}
 use Rattle.standards.specs.Lists.{sum_to}
 use Rattle.algebra.proofs.Sums.{sum_more}
@@ -20,10 +20,3 @@ loop-j-preserved g c =
       omega (arith, a),
       omega (arith, b),
     )
-
-pub returns : goal.returns
-returns g c =
-    let v = c.args.v in
-    let e = g.row.ETA in
-    let all : c.loop-j.j ≡ e = omega arith in
-    ap₂ (λ x y. (x + (3329 - y)) % 3329) (c.loop-j.invariant.0 ∙ ap (λ n. sum_to n (λ j. (v / 2 ^ j) % 2)) all) (c.loop-j.invariant.1 ∙ ap (λ n. sum_to n (λ j. (v / 2 ^ (e + j)) % 2)) all)
