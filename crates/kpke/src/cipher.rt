@@ -34,7 +34,7 @@ fn u_rows<H: Hash>(p: KemSet, r: &[u8], a: &[[u16; 256]], y: &[[u16; 256]], u: &
         let mut e = [0u16; 256];
         small_poly::<H>(p.eta2, r, (p.k + i) as u8, &mut e);
         add(&mut f, &e);
-        compress(p.du, &mut f);
+        compress(p.du.bits, &mut f);
         u[i] = f;
     }
 }
@@ -61,7 +61,7 @@ fn v_poly<H: Hash>(
     let mut s = [0u16; 256];
     mu(m, &mut s);
     add(f, &s);
-    compress(p.dv, f);
+    compress(p.dv.bits, f);
 }
 
 // The rows of u, and v behind them.
@@ -117,7 +117,7 @@ fn text_rows(p: KemSet, c: &[u8], v: &mut [[u16; 256]])
     for i in 0..v.len() {
         let mut f = [0u16; 256];
         unpack(p.du, &c[w * i..w * i + w], &mut f);
-        decompress(p.du, &mut f);
+        decompress(p.du.bits, &mut f);
         ntt(&mut f);
         v[i] = f;
     }
@@ -142,8 +142,8 @@ pub fn decrypt(p: KemSet, dk: &[u8], c: &[u8], m: &mut [u8; 32])
     let mut v = [0u16; 256];
     let n = 32 * p.du.bits * p.k;
     unpack(p.dv, &c[n..n + 32 * p.dv.bits], &mut v);
-    decompress(p.dv, &mut v);
+    decompress(p.dv.bits, &mut v);
     sub(&mut v, &f);
-    compress(MESSAGE_BITS, &mut v);
+    compress(1, &mut v);
     pack(MESSAGE_BITS, &v, m);
 }

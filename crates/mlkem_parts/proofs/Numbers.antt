@@ -2,7 +2,6 @@
 use Rattle.std.proofs.Common.{◌≡◌, ℕ, ◌+◌, ◌-◌, ◌*◌, ◌/◌, ◌%◌, ◌^◌, ◌<◌, ◌≤◌, ap, ◌∙◌, mul_comm, arith, pow_mono, bit_and}
 use Rattle.std.proofs.Math.Nat.{pow-succ'}
 use Rattle.std.proofs.lemmas.Nat.{pow_pos, shl_whole, one_shl, and_mask, div_below, mod_below}
-use Rattle.packing.specs.Widths.{kem_few}
 use Rattle.standards.specs.MlKemParts.{compress, decompress}
 
 pub compressed : (d x : ℕ) → d ≤ 12 → x < 3329 → bit_and (((x * 2 ^ (d + 1)) % 2 ^ 32 + 3329) / 6658) ((1 * 2 ^ d) % 2 ^ 32 - 1) ≡ compress d x
@@ -23,6 +22,6 @@ decompress_below d y h l =
 pub compress_below : (d x : ℕ) → compress d x < 2 ^ d
 compress_below d x = mod_below _ (2 ^ d) (pow_pos d)
 
-pub ruleset compress_steps = (kem_few, compressed, compress_below)
+pub ruleset compress_steps = (compressed, compress_below)
 
-pub ruleset decompress_steps = (kem_few, decompressed, decompress_below)
+pub ruleset decompress_steps = (decompressed, decompress_below)

@@ -41,5 +41,5 @@ pub fn mu(m: &[u8; 32], f: &mut [u16; 256])
     ensures below { T (all_below 3329 f.new) }
 {
     unpack(MESSAGE_BITS, m, f);
-    decompress(MESSAGE_BITS, f);
+    decompress(1, f);
 }

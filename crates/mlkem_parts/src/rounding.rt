@@ -1,38 +1,36 @@
 // Compress and Decompress, in whole numbers. Division is by a constant, which the compiler turns into a product and a shift.
 // Loops go by index: the numbers may be secret, and this form lowers to plain code that reads the same places whatever they are.
-ghost use Rattle.std.specs.Prelude.{◌≡◌, ◌^◌, ◌<◌, T};
+ghost use Rattle.std.specs.Prelude.{◌≡◌, ◌^◌, ◌<◌, ◌≤◌, T};
 ghost use Rattle.standards.specs.Lists.{all_below};
 ghost use Rattle.standards.specs.MlKemParts.{compress, decompress, compress_p, decompress_p};
 
-use packing::Width;
-
-// At most 12 bits: 2^(d + 1) x + q is below 2^25.
+// 2^(d + 1) x + q is below 2^25. The bound on d is a clause and no type: numbers are compressed to any d bits, not only to widths that are packed.
 #[tactic(auto, using(crate::proofs::Numbers::compress_steps))]
-fn compress_number(d: Width<u16>, x: u16) -> u16
-    requires { x < 3329 }
-    ensures value { result ≡ compress d.bits x }
-    ensures below { result < 2 ^ d.bits }
+fn compress_number(d: usize, x: u16) -> u16
+    requires { (d ≤ 12) × (x < 3329) }
+    ensures value { result ≡ compress d x }
+    ensures below { result < 2 ^ d }
 {
-    let t = (((x as u32) << (d.bits + 1)) + 3329) / 6658;
-    (t & ((1u32 << d.bits) - 1)) as u16
+    let t = (((x as u32) << (d + 1)) + 3329) / 6658;
+    (t & ((1u32 << d) - 1)) as u16
 }
 
 // 2 q y + 2^d is below 2^25.
 #[tactic(auto, using(crate::proofs::Numbers::decompress_steps))]
-fn decompress_number(d: Width<u16>, y: u16) -> u16
-    requires { y < 2 ^ d.bits }
-    ensures value { result ≡ decompress d.bits y }
+fn decompress_number(d: usize, y: u16) -> u16
+    requires { (d ≤ 12) × (y < 2 ^ d) }
+    ensures value { result ≡ decompress d y }
     ensures below { result < 3329 }
 {
-    ((6658 * y as u32 + (1u32 << d.bits)) >> (d.bits + 1)) as u16
+    ((6658 * y as u32 + (1u32 << d)) >> (d + 1)) as u16
 }
 
 // Compress, number by number.
 #[tactic(auto, using(algebra::proofs::Tables::at_below))]
-pub fn compress(d: Width<u16>, f: &mut [u16; 256])
-    requires { T (all_below 3329 f.old) }
-    ensures value { f.new ≡ compress_p d.bits f.old }
-    ensures below { T (all_below (2 ^ d.bits) f.new) }
+pub fn compress(d: usize, f: &mut [u16; 256])
+    requires { (d ≤ 12) × (T (all_below 3329 f.old)) }
+    ensures value { f.new ≡ compress_p d f.old }
+    ensures below { T (all_below (2 ^ d) f.new) }
 {
     for i in 0..256 {
         f[i] = compress_number(d, f[i]);
@@ -41,9 +39,9 @@ pub fn compress(d: Width<u16>, f: &mut [u16; 256])
 
 // Decompress, number by number.
 #[tactic(auto, using(algebra::proofs::Tables::at_below))]
-pub fn decompress(d: Width<u16>, f: &mut [u16; 256])
-    requires { T (all_below (2 ^ d.bits) f.old) }
-    ensures value { f.new ≡ decompress_p d.bits f.old }
+pub fn decompress(d: usize, f: &mut [u16; 256])
+    requires { (d ≤ 12) × (T (all_below (2 ^ d) f.old)) }
+    ensures value { f.new ≡ decompress_p d f.old }
     ensures below { T (all_below 3329 f.new) }
 {
     for i in 0..256 {

@@ -4,4 +4,4 @@ use Rattle.algebra.proofs.Words.{Filled}
 use Rattle.mlkem_parts.proofs.rounding.compress.Given as goal
 
 abbrev pub invariant-loop-i : goal.invariant-loop-i
-invariant-loop-i l = Filled (λ k. compress l.d.bits (at l.initial.f k)) l.initial.f l.i l.f
+invariant-loop-i l = Filled (λ k. compress l.d (at l.initial.f k)) l.initial.f l.i l.f

@@ -1,6 +1,5 @@
 use Rattle.std.proofs.Common.{◌^◌, T, sym, subst, arith}
 use Rattle.standards.specs.Lists.{at, all_below}
-use Rattle.packing.specs.Widths.{kem_few}
 use Rattle.algebra.proofs.Tables.{at_below, below_table}
 use Rattle.algebra.proofs.Words.{filled_all}
 use Rattle.mlkem_parts.proofs.Numbers.{decompress_below}
@@ -10,5 +9,5 @@ pub returns : goal.returns
 returns c =
     let f = c.args.f.now in
     let e = filled_all _ c.args.f.now c.loop-i.f c.loop-i.i (omega arith) c.loop-i.invariant in
-    let d = c.args.d.bits in
-    record { value = e; below = subst (λ r. T (all_below 3329 r)) (sym e) (below_table 3329 256 _ (λ k l. decompress_below d (at f k) (kem_few d c.args.d.known) (at_below (2 ^ d) f k c.requires (omega arith)))) }
+    let d = c.args.d in
+    record { value = e; below = subst (λ r. T (all_below 3329 r)) (sym e) (below_table 3329 256 _ (λ k l. decompress_below d (at f k) c.requires.0 (at_below (2 ^ d) f k c.requires.1 (omega arith)))) }
