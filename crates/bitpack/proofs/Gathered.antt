@@ -1,0 +1,99 @@
+-- What the loop over the words that write numbers carries on.
+use Rattle.std.proofs.Common.{◌≡◌, ℕ, zero, suc, ◌+◌, ◌<◌, ◌≤◌, ◌^◌, ◌≢◌, Bool, true, false, cond, List, [], ◌∷◌, ◌++◌, length, map, set, take, Result, Ok, Err, eqb, nat_lt, refl, sym, ap, ◌∙◌, append_assoc, append-nil, subst, arith, length-append}
+use Rattle.std.proofs.lemmas.Bool.Decides.{nat_tests}
+use Rattle.std.proofs.lemmas.List.{map-set, take_more_set, take_all}
+use Rattle.algebra.proofs.Words.{length-numbers}
+use Rattle.std.proofs.Math.Nat.{pow-le-pow_right}
+use Rattle.bitpack.specs.Problems.{Fails, ◌>>=◌}
+use Rattle.bitpack.specs.Answers.{number_in, number_of, all_of, numbers_of}
+use Rattle.bitpack.specs.declared.problem.Problem.{Problem}
+use Rattle.bitpack.specs.declared.problem.Problem.TheVariants.{Numbers, TooLarge}
+use Rattle.bitpack.proofs.Fails.{fails_then}
+
+abbrev Numbers_in : Type 0
+Numbers_in = Result (List ℕ) Problem
+
+-- numbers before others
+abbrev before : List ℕ → Numbers_in → Numbers_in
+before done r = r >>= λ xs. Ok (done ++ xs)
+
+-- n words before those that are left are numbers of d bits, and as many of these as there is room for stand in the row
+pub record Gathered (d : ℕ) (words left : List (List ℕ)) (n : ℕ) (row : List ℕ) : Type 0 where
+  pub done : List ℕ
+  pub count : length done ≡ n
+  pub counted : n + length left ≡ length words
+  pub onward : all_of d words ≡ before done (all_of d left)
+  pub stored : n ≤ 256 → take n row ≡ done
+
+before_none : (r : Numbers_in) → r ≡ before [] r
+before_none (Ok xs) = refl
+before_none (Err e) = refl
+
+pub gathered_none : (d : ℕ) (words : List (List ℕ)) (row : List ℕ) → Gathered d words words 0 row
+gathered_none d words row = record { done = []; count = refl; counted = omega arith; onward = before_none (all_of d words); stored = λ h. refl }
+
+before_more : (done : List ℕ) (x : ℕ) (r : Numbers_in) → before done (r >>= λ xs. Ok (x ∷ xs)) ≡ before (done ++ x ∷ []) r
+before_more done x (Ok xs) = ap Ok (sym (append_assoc done (x ∷ []) xs))
+before_more done x (Err e) = refl
+
+all_cons : (d : ℕ) (word : List ℕ) (more : List (List ℕ)) → all_of d (word ∷ more) ≡ (number_of d word >>= λ x. all_of d more >>= λ xs. Ok (x ∷ xs))
+unfolding all_of
+all_cons d word more = refl
+
+all_nil : (d : ℕ) → all_of d [] ≡ Ok []
+unfolding all_of
+all_nil d = refl
+
+-- one number more, which is stored where there is room; `numbers` are those that a row of machine words stands for
+module _ {A : Type 0} {value : A → ℕ} {numbers : List A → List ℕ} (are : (xs : List A) → numbers xs ≡ map value xs) where
+  module _ {d : ℕ} {words left more : List (List ℕ)} {n : ℕ} {row : List A} (g : Gathered d words left n (numbers row)) (word : List ℕ) (x : ℕ) (is : left ≡ word ∷ more) (h : number_of d word ≡ Ok x) where
+    one_more : (next : List ℕ) → (n + 1 ≤ 256 → take (n + 1) next ≡ g.done ++ x ∷ []) → Gathered d words more (n + 1) next
+    one_more next stored = record {
+      done = g.done ++ x ∷ [];
+      count = omega (arith, length-append g.done (x ∷ []), g.count);
+      counted = omega (arith, g.counted, ap length is);
+      onward = g.onward ∙ ap (λ l. before g.done (all_of d l)) is ∙ ap (before g.done) (all_cons d word more ∙ ap (λ r. r >>= λ y. all_of d more >>= λ xs. Ok (y ∷ xs)) h) ∙ before_more g.done x (all_of d more);
+      stored = stored;
+    }
+
+    pub gathered_stored : (w : A) → value w ≡ x → n < length row → Gathered d words more (n + 1) (numbers (set row n w))
+    gathered_stored w e room =
+        let set_is : numbers (set row n w) ≡ set (numbers row) n x = are (set row n w) ∙ map-set value row n w ∙ (λ i. set (sym (are row) i) n (e i)) in
+        one_more (numbers (set row n w)) (λ k. ap (take (n + 1)) set_is ∙ take_more_set (numbers row) n x (omega (arith, length-numbers value numbers are row)) ∙ ap (λ l. l ++ x ∷ []) (g.stored (omega arith)))
+
+    pub gathered_counted : 256 ≤ n → Gathered d words more (n + 1) (numbers row)
+    gathered_counted full = one_more (numbers row) (λ k. absurd (omega arith))
+
+module _ {d : ℕ} {words left : List (List ℕ)} {n : ℕ} {row : List ℕ} (g : Gathered d words left n row) where
+  module _ (end : left ≡ []) where
+    all : all_of d words ≡ Ok g.done
+    all = g.onward ∙ ap (λ l. before g.done (all_of d l)) end ∙ ap (before g.done) (all_nil d) ∙ ap Ok (append-nil g.done)
+
+    pub gathered_all : n ≡ 256 → length row ≡ 256 → numbers_of d words ≡ Ok row
+    gathered_all full long =
+        let is : row ≡ g.done = sym (take_all n row (omega arith)) ∙ g.stored (omega arith) in
+        let count : eqb (length g.done) 256 ≡ true = grind (arith, nat_tests, g.count) in
+        rw (all, count) (ap Ok (sym is))
+
+    pub gathered_others : n ≢ 256 → numbers_of d words ≡ Err (Numbers n)
+    gathered_others differs =
+        let count : eqb (length g.done) 256 ≡ false = grind (arith, nat_tests, g.count) in
+        rw (all, count, g.count) refl
+
+  -- a word is no number of d bits
+  pub gathered_fails : (word : List ℕ) (more : List (List ℕ)) (problem : Problem) → left ≡ word ∷ more → Fails problem (number_of d word) → Fails problem (numbers_of d words)
+  gathered_fails word more problem is h =
+      let first : all_of d words ≡ before g.done (number_of d word >>= λ x. all_of d more >>= λ xs. Ok (x ∷ xs)) = g.onward ∙ ap (λ l. before g.done (all_of d l)) is ∙ ap (before g.done) (all_cons d word more) in
+      subst (λ r. Fails problem (r >>= λ xs. cond (eqb (length xs) 256) (Ok xs) (Err (Numbers (length xs))))) (sym first) (fails_then problem _ _ (fails_then problem _ _ (fails_then problem _ _ h)))
+
+-- a number that a word writes fits its bits
+number_small : (d : ℕ) (r : Result ℕ Problem) (x : ℕ) → (r >>= λ y. cond (nat_lt y (2 ^ d)) (Ok y) (Err TooLarge)) ≡ Ok x → x < 2 ^ d
+number_small d (Ok y) x h = by (nat_lt y (2 ^ d)) refl h
+  where
+    by : (b : Bool) → nat_lt y (2 ^ d) ≡ b → cond b (Ok y) (Err TooLarge) ≡ Ok x → x < 2 ^ d
+    by true e is = grind (arith, nat_tests)
+    by false e is = cc
+number_small d (Err e) x h = cc
+
+pub number_fits_word : (d bits : ℕ) (word : List ℕ) (x : ℕ) → d ≤ bits → number_of d word ≡ Ok x → x < 2 ^ bits
+number_fits_word d bits word x h is = omega (arith, number_small d (number_in 32 word) x is, pow-le-pow_right {n = 2} (omega arith) h)

@@ -1,0 +1,7 @@
+mod Fails
+mod Gathered
+mod Left
+mod Parsed
+mod Printed
+mod Split
+mod Written

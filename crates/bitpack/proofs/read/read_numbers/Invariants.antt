@@ -1,0 +1,7 @@
+use Rattle.std.proofs.Common.{◌≡◌, length}
+use Rattle.bitpack.specs.Line.{left}
+use Rattle.bitpack.proofs.Gathered.{Gathered}
+use Rattle.bitpack.proofs.read.read_numbers.Given as goal
+
+abbrev pub invariant-loop-word : goal.invariant-loop-word
+invariant-loop-word g l = Gathered l.w.d (left l.fn.words) (left l.word-iterator) l.n (g.W.Word.numbers l.f) × (length l.f ≡ 256)

@@ -1,0 +1,4 @@
+pub mod Problems
+pub mod Widths
+pub mod Line
+pub mod Answers

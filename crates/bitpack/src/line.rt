@@ -1,0 +1,45 @@
+// The words of a line, one after the other.
+ghost use Rattle.std.specs.Prelude.{◌<◌, ◌^◌, length, IsUtf8};
+ghost use Rattle.std.specs.Str.Iter.{split_whitespace_rest};
+ghost use Rattle.lines.specs.Words.{words_of};
+
+use std::str::SplitWhitespace;
+
+// The words that are still to come. They are so few that they can be counted.
+#[derive(Drop)]
+pub struct LineWords<'a> {
+    rest: SplitWhitespace<'a>,
+    ghost utf8: { ∥ IsUtf8 (split_whitespace_rest rest) ∥₁ },
+    ghost few: { length (words_of (split_whitespace_rest rest)) < 2 ^ 64 },
+}
+
+impl<'a> LineWords<'a> {
+    ghost use Rattle.std.specs.Prelude.{◌≡◌};
+    ghost use Rattle.lines.specs.Words.{words_of};
+    ghost use Rattle.bitpack.specs.Line.{left};
+
+    #[tactic(auto, using(crate::proofs::Left::left_first))]
+    pub fn new(line: &'a str) -> Self
+        ensures { left result ≡ words_of line.now }
+    {
+        LineWords {
+            rest: line.split_whitespace(),
+        }
+    }
+}
+
+impl<'a> Iterator for LineWords<'a> {
+    ghost use Rattle.std.specs.Iterator.{YieldsFirstRef, item_count};
+    ghost use Rattle.bitpack.specs.Line.{left};
+
+    type Item = &'a str;
+
+    ghost next_gives = { YieldsFirstRef left };
+
+    ghost remaining = { item_count left };
+
+    #[tactic(auto, using(crate::proofs::Left::left_next))]
+    fn next(&mut self) -> Option<&'a str> {
+        self.rest.next()
+    }
+}

@@ -1,0 +1,68 @@
+// What the words of a line write.
+ghost use Rattle.std.specs.Prelude.{◌≤◌};
+ghost use Rattle.bitpack.specs.Line.{left};
+ghost use Rattle.bitpack.specs.Problems.{Gives};
+ghost use Rattle.bitpack.specs.Answers.{number_of, numbers_of, bytes_in};
+
+use crate::line::LineWords;
+use crate::problem::Problem;
+use crate::width::Width;
+use hex_digits::read_hex;
+use packing::Packed;
+use std::alloc::Global;
+use words::Word;
+
+// The number of d bits that a word writes.
+#[tactic(auto, using(crate::proofs::Parsed::parse_steps))]
+fn number(word: &str, d: usize) -> Result<u32, Problem>
+    requires { d ≤ 31 }
+    ensures { Gives (λ x. x) result (number_of d word.now) }
+{
+    let x = word.parse::<u32>()?;
+    if x >> d == 0 {
+        Ok(x)
+    } else {
+        Err(Problem::TooLarge)
+    }
+}
+
+// Reads 256 numbers of d bits each.
+fn read_numbers<W: Packed>(words: LineWords<'_>, w: &Width<W>, f: &mut [W; 256]) -> Result<(), Problem>
+    ensures { Gives (λ _. W.numbers f.new) result (numbers_of w.now.d (left words.entry)) }
+{
+    let mut n: usize = 0;
+    for word in words {
+        let x = number(word, w.d)?;
+        if n < 256 {
+            f[n] = W::narrow(x);
+        }
+        n += 1;
+    }
+    if n == 256 {
+        Ok(())
+    } else {
+        Err(Problem::Numbers(n))
+    }
+}
+
+// The 256 numbers that the words write.
+pub fn numbers<W: Packed>(words: LineWords<'_>, w: &Width<W>) -> Result<[W; 256], Problem>
+    ensures { Gives W.numbers result (numbers_of w.now.d (left words.entry)) }
+{
+    let mut f = [W::narrow(0); 256];
+    read_numbers(words, w, &mut f)?;
+    Ok(f)
+}
+
+// The bytes that the next word writes, as many as are wanted.
+pub fn bytes(heap: Global, mut words: LineWords<'_>, want: usize) -> Result<Vec<u8>, Problem>
+    ensures { Gives (λ v. v.items) result (bytes_in want (left words.entry)) }
+{
+    let word = words.next().ok_or(Problem::Usage)?;
+    let bs = read_hex(heap, word.as_bytes())?.ok_or(Problem::NotHex)?;
+    if bs.len() == want {
+        Ok(bs)
+    } else {
+        Err(Problem::Bytes(bs.len(), want))
+    }
+}
