@@ -1,14 +1,13 @@
 -- What the loop over the words that write numbers carries on.
-use Rattle.std.proofs.Common.{◌≡◌, ℕ, zero, suc, ◌+◌, ◌<◌, ◌≤◌, ◌^◌, ◌≢◌, Bool, true, false, cond, List, [], ◌∷◌, ◌++◌, length, map, set, take, Result, Ok, Err, eqb, nat_lt, refl, sym, ap, ◌∙◌, append_assoc, append-nil, subst, arith, length-append}
+use Rattle.std.proofs.Common.{◌≡◌, ℕ, ◌+◌, ◌<◌, ◌≤◌, ◌^◌, ◌≢◌, Bool, true, false, cond, List, [], ◌∷◌, ◌++◌, length, map, set, take, Result, Ok, Err, eqb, nat_lt, refl, sym, ap, ◌∙◌, append_assoc, append-nil, subst, arith, length-append, length-set}
 use Rattle.std.proofs.lemmas.Bool.Decides.{nat_tests}
 use Rattle.std.proofs.lemmas.List.{map-set, take_more_set, take_all}
-use Rattle.algebra.proofs.Words.{length-numbers}
-use Rattle.std.proofs.Math.Nat.{pow-le-pow_right}
 use Rattle.bitpack.specs.Problems.{Fails, ◌>>=◌}
-use Rattle.bitpack.specs.Answers.{number_in, number_of, all_of, numbers_of}
+use Rattle.bitpack.specs.Answers.{number_of, all_of, numbers_of}
 use Rattle.bitpack.specs.declared.problem.Problem.{Problem}
-use Rattle.bitpack.specs.declared.problem.Problem.TheVariants.{Numbers, TooLarge}
+use Rattle.bitpack.specs.declared.problem.Problem.TheVariants.{Numbers}
 use Rattle.bitpack.proofs.Fails.{fails_then}
+use Rattle.bitpack.proofs.Parsed.{number_has_room}
 
 abbrev Numbers_in : Type 0
 Numbers_in = Result (List ℕ) Problem
@@ -25,13 +24,6 @@ pub record Gathered (d : ℕ) (words left : List (List ℕ)) (n : ℕ) (row : Li
   pub onward : all_of d words ≡ before done (all_of d left)
   pub stored : n ≤ 256 → take n row ≡ done
 
-before_none : (r : Numbers_in) → r ≡ before [] r
-before_none (Ok xs) = refl
-before_none (Err e) = refl
-
-pub gathered_none : (d : ℕ) (words : List (List ℕ)) (row : List ℕ) → Gathered d words words 0 row
-gathered_none d words row = record { done = []; count = refl; counted = omega arith; onward = before_none (all_of d words); stored = λ h. refl }
-
 before_more : (done : List ℕ) (x : ℕ) (r : Numbers_in) → before done (r >>= λ xs. Ok (x ∷ xs)) ≡ before (done ++ x ∷ []) r
 before_more done x (Ok xs) = ap Ok (sym (append_assoc done (x ∷ []) xs))
 before_more done x (Err e) = refl
@@ -44,25 +36,16 @@ all_nil : (d : ℕ) → all_of d [] ≡ Ok []
 unfolding all_of
 all_nil d = refl
 
--- one number more, which is stored where there is room; `numbers` are those that a row of machine words stands for
-module _ {A : Type 0} {value : A → ℕ} {numbers : List A → List ℕ} (are : (xs : List A) → numbers xs ≡ map value xs) where
-  module _ {d : ℕ} {words left more : List (List ℕ)} {n : ℕ} {row : List A} (g : Gathered d words left n (numbers row)) (word : List ℕ) (x : ℕ) (is : left ≡ word ∷ more) (h : number_of d word ≡ Ok x) where
-    one_more : (next : List ℕ) → (n + 1 ≤ 256 → take (n + 1) next ≡ g.done ++ x ∷ []) → Gathered d words more (n + 1) next
-    one_more next stored = record {
-      done = g.done ++ x ∷ [];
-      count = omega (arith, length-append g.done (x ∷ []), g.count);
-      counted = omega (arith, g.counted, ap length is);
-      onward = g.onward ∙ ap (λ l. before g.done (all_of d l)) is ∙ ap (before g.done) (all_cons d word more ∙ ap (λ r. r >>= λ y. all_of d more >>= λ xs. Ok (y ∷ xs)) h) ∙ before_more g.done x (all_of d more);
-      stored = stored;
-    }
-
-    pub gathered_stored : (w : A) → value w ≡ x → n < length row → Gathered d words more (n + 1) (numbers (set row n w))
-    gathered_stored w e room =
-        let set_is : numbers (set row n w) ≡ set (numbers row) n x = are (set row n w) ∙ map-set value row n w ∙ (λ i. set (sym (are row) i) n (e i)) in
-        one_more (numbers (set row n w)) (λ k. ap (take (n + 1)) set_is ∙ take_more_set (numbers row) n x (omega (arith, length-numbers value numbers are row)) ∙ ap (λ l. l ++ x ∷ []) (g.stored (omega arith)))
-
-    pub gathered_counted : 256 ≤ n → Gathered d words more (n + 1) (numbers row)
-    gathered_counted full = one_more (numbers row) (λ k. absurd (omega arith))
+-- one number more, which is stored where there is room
+pub gathered_more : (d : ℕ) (words left more : List (List ℕ)) (n : ℕ) (row : List ℕ) (word : List ℕ) (x : ℕ) → Gathered d words left n row → length row ≡ 256 → left ≡ word ∷ more → number_of d word ≡ Ok x
+    → Gathered d words more (n + 1) (set row n x)
+gathered_more d words left more n row word x g long is h = record {
+  done = g.done ++ x ∷ [];
+  count = omega (arith, length-append g.done (x ∷ []), g.count);
+  counted = omega (arith, g.counted, ap length is);
+  onward = g.onward ∙ ap (λ l. before g.done (all_of d l)) is ∙ ap (before g.done) (all_cons d word more ∙ ap (λ r. r >>= λ y. all_of d more >>= λ xs. Ok (y ∷ xs)) h) ∙ before_more g.done x (all_of d more);
+  stored = λ k. take_more_set row n x (omega arith) ∙ ap (λ l. l ++ x ∷ []) (g.stored (omega arith));
+}
 
 module _ {d : ℕ} {words left : List (List ℕ)} {n : ℕ} {row : List ℕ} (g : Gathered d words left n row) where
   module _ (end : left ≡ []) where
@@ -86,14 +69,7 @@ module _ {d : ℕ} {words left : List (List ℕ)} {n : ℕ} {row : List ℕ} (g 
       let first : all_of d words ≡ before g.done (number_of d word >>= λ x. all_of d more >>= λ xs. Ok (x ∷ xs)) = g.onward ∙ ap (λ l. before g.done (all_of d l)) is ∙ ap (before g.done) (all_cons d word more) in
       subst (λ r. Fails problem (r >>= λ xs. cond (eqb (length xs) 256) (Ok xs) (Err (Numbers (length xs))))) (sym first) (fails_then problem _ _ (fails_then problem _ _ (fails_then problem _ _ h)))
 
--- a number that a word writes fits its bits
-number_small : (d : ℕ) (r : Result ℕ Problem) (x : ℕ) → (r >>= λ y. cond (nat_lt y (2 ^ d)) (Ok y) (Err TooLarge)) ≡ Ok x → x < 2 ^ d
-number_small d (Ok y) x h = by (nat_lt y (2 ^ d)) refl h
-  where
-    by : (b : Bool) → nat_lt y (2 ^ d) ≡ b → cond b (Ok y) (Err TooLarge) ≡ Ok x → x < 2 ^ d
-    by true e is = grind (arith, nat_tests)
-    by false e is = cc
-number_small d (Err e) x h = cc
+-- a word that is stored
+pub ruleset stored_steps = (map-set)
 
-pub number_fits_word : (d bits : ℕ) (word : List ℕ) (x : ℕ) → d ≤ bits → number_of d word ≡ Ok x → x < 2 ^ bits
-number_fits_word d bits word x h is = omega (arith, number_small d (number_in 32 word) x is, pow-le-pow_right {n = 2} (omega arith) h)
+pub ruleset gathered_steps = (gathered_more, length-set, number_has_room)

@@ -1,5 +1,5 @@
 -- One word more of those that are left of a line.
-use Rattle.std.proofs.Common.{◌≡◌, ℕ, ◌+◌, ◌≤◌, List, [], ◌∷◌, length, Option, None, Some, MatchOption, Bor, ap, ◌∙◌, arith}
+use Rattle.std.proofs.Common.{◌≡◌, ℕ, ◌+◌, ◌≤◌, List, [], ◌∷◌, length, Option, None, Some, MatchOption, Bor, ap, arith}
 use Rattle.std.specs.Prelude.{IsUtf8}
 use Rattle.std.specs.Str.Iter.{split_whitespace_rest, split_whitespace_steps}
 use Rattle.std.specs.declared.str.SplitWhitespace.{SplitWhitespace}
@@ -16,5 +16,10 @@ left_next s t None u (same, blank) = let none = next_word s t None (IsUtf8-had _
 left_next s t (Some x) u h = let (first, more) = next_word s t (Some x) (IsUtf8-had _ u) h in (first, ∣ more ∣₁, omega (arith, ap length first))
 
 -- all words of a line are left at first
-pub left_first : (line : List ℕ) (s : SplitWhitespace) → split_whitespace_rest s ≡ line → IsUtf8 line → ∥ IsUtf8 (split_whitespace_rest s) ∥₁ × (length (words s) ≤ length line + 1)
-left_first line s is u = rw is (∣ u ∣₁, few_words line u)
+pub utf8_first : (line : List ℕ) (s : SplitWhitespace) → split_whitespace_rest s ≡ line → IsUtf8 line → ∥ IsUtf8 (split_whitespace_rest s) ∥₁
+utf8_first line s is u = rw is (∣ u ∣₁)
+
+pub few_first : (line : List ℕ) (s : SplitWhitespace) → split_whitespace_rest s ≡ line → IsUtf8 line → length (words s) ≤ length line + 1
+few_first line s is u = rw is (few_words line u)
+
+pub ruleset left_first = (utf8_first, few_first)

@@ -1,13 +1,13 @@
 -- The numbers that words write, as they are parsed.
-use Rattle.std.proofs.Common.{◌≡◌, ℕ, ◌*◌, ◌/◌, ◌<◌, ◌^◌, ◌≢◌, Bool, true, false, cond, ◌&&◌, List, length, Result, Ok, Err, refl, sym, ap, ◌∙◌, nat_lt, arith}
+use Rattle.std.proofs.Common.{◌≡◌, ℕ, ◌*◌, ◌/◌, ◌<◌, ◌≤◌, ◌^◌, ◌≢◌, Bool, true, false, cond, ◌&&◌, List, length, Result, Ok, Err, refl, sym, ap, ◌∙◌, nat_lt, arith}
 use Rattle.std.specs.Str.{all_ascii_digits}
 use Rattle.std.specs.Bool.{Decides}
 use Rattle.std.specs.Str.Parse.{IsNumeral, digits_value, without_leading_plus}
 use Rattle.std.proofs.lemmas.Bool.Decides.{Decides-and, Decides-ltb, nat_tests}
 use Rattle.std.proofs.lemmas.Str.Parse.{numerals_by_value, tells_all_ascii_digits}
-use Rattle.std.proofs.Math.Nat.{lt-div-mul-add, div-eq_of_lt}
+use Rattle.std.proofs.Math.Nat.{lt-div-mul-add, div-eq_of_lt, pow-le-pow_right}
 use Rattle.std.proofs.lemmas.Nat.{pow_pos}
-use Rattle.bitpack.specs.Problems.{Fails}
+use Rattle.bitpack.specs.Problems.{Fails, ◌>>=◌}
 use Rattle.bitpack.specs.Answers.{is_number, number_in, number_of, width_of}
 use Rattle.bitpack.specs.declared.problem.Problem.{Problem}
 use Rattle.bitpack.specs.declared.problem.Problem.TheVariants.{NoNumber, TooLarge}
@@ -47,6 +47,18 @@ number_exceeds d word n h small e shifted =
 
 pub number_none : (d : ℕ) (word : List ℕ) → let ds = without_leading_plus word in ¬ (IsNumeral 10 ds × (digits_value 10 ds < 2 ^ 32)) → number_of d word ≡ Err NoNumber
 number_none d word none = rw (number_missing 32 word none) refl
+
+-- a number of d bits has room in a word of as many bits or more
+number_small : (d : ℕ) (r : Result ℕ Problem) (x : ℕ) → (r >>= λ y. cond (nat_lt y (2 ^ d)) (Ok y) (Err TooLarge)) ≡ Ok x → x < 2 ^ d
+number_small d (Ok y) x h = by (nat_lt y (2 ^ d)) refl h
+  where
+    by : (b : Bool) → nat_lt y (2 ^ d) ≡ b → cond b (Ok y) (Err TooLarge) ≡ Ok x → x < 2 ^ d
+    by true e is = grind (arith, nat_tests)
+    by false e is = cc
+number_small d (Err e) x h = cc
+
+pub number_has_room : (d bits : ℕ) (word : List ℕ) (x : ℕ) → d ≤ bits → number_of d word ≡ Ok x → x < 2 ^ bits
+number_has_room d bits word x h is = omega (arith, number_small d (number_in 32 word) x is, pow-le-pow_right {n = 2} (omega arith) h)
 
 -- a width, one that is none of the scheme's, and a word that is no number
 pub width_found : (is_width : ℕ → Bool) (other : Problem) (word : List ℕ) (n : ℕ) → let ds = without_leading_plus word in IsNumeral 10 ds → digits_value 10 ds < 2 ^ 64 → n ≡ digits_value 10 ds

@@ -1,7 +1,7 @@
 -- The tables of the widths hold what packing packs at.
 use Rattle.std.specs.Prelude.{◌≡◌, ℕ, ◌*◌, ◌^◌, ◌<◌, [], ◌∷◌, eqb}
 use Rattle.std.specs.List.{list_any}
-use Rattle.std.proofs.Common.{rules, arith}
+use Rattle.std.proofs.Common.{arith}
 use Rattle.std.proofs.lemmas.Bool.Decides.{nat_tests}
 use Rattle.packing.specs.Widths.{kem_width, dsa_width}
 

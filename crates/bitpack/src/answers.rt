@@ -60,7 +60,11 @@ fn pack_line<W: Scheme>(heap: Global, w: Width<W>, words: LineWords<'_>) -> Resu
 }
 
 // The answer to the digits behind a width.
-fn unpack_line<W: Scheme>(heap: Global, w: Width<W>, words: LineWords<'_>) -> Result<String, Problem>
+fn unpack_line<W: Scheme>(
+    heap: Global,
+    w: Width<W>,
+    words: LineWords<'_>,
+) -> Result<String, Problem>
     ensures { Gives string_bytes result (unpack_answer w.d (left words.entry)) }
 {
     let bs = bytes(heap, words, 32 * w.d)?;

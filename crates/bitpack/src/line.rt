@@ -5,7 +5,7 @@ ghost use Rattle.lines.specs.Words.{words_of};
 
 use std::str::SplitWhitespace;
 
-// The words that are still to come. They are so few that they can be counted.
+// The words that are still to come, fewer than 2^64: a count of them does not overflow.
 #[derive(Drop)]
 pub struct LineWords<'a> {
     rest: SplitWhitespace<'a>,

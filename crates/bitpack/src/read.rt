@@ -1,5 +1,5 @@
 // What the words of a line write.
-ghost use Rattle.std.specs.Prelude.{◌≤◌};
+ghost use Rattle.std.specs.Prelude.{◌≡◌, ◌^◌, ◌<◌, ◌≤◌, slice_set};
 ghost use Rattle.bitpack.specs.Line.{left};
 ghost use Rattle.bitpack.specs.Problems.{Gives};
 ghost use Rattle.bitpack.specs.Answers.{number_of, numbers_of, bytes_in};
@@ -26,16 +26,30 @@ fn number(word: &str, d: usize) -> Result<u32, Problem>
     }
 }
 
+// Puts a number at place n of a row, if it has one.
+#[tactic(auto, using(crate::proofs::Gathered::stored_steps))]
+fn put<W: Word>(f: &mut [W; 256], n: usize, x: u32)
+    requires { x < 2 ^ W.bits }
+    ensures { W.numbers f.new ≡ slice_set (W.numbers f.old) n x }
+{
+    if n < 256 {
+        f[n] = W::narrow(x);
+    }
+}
+
 // Reads 256 numbers of d bits each.
-fn read_numbers<W: Packed>(words: LineWords<'_>, w: &Width<W>, f: &mut [W; 256]) -> Result<(), Problem>
+#[tactic(auto, using(crate::proofs::Gathered::gathered_steps))]
+fn read_numbers<W: Packed>(
+    words: LineWords<'_>,
+    w: &Width<W>,
+    f: &mut [W; 256],
+) -> Result<(), Problem>
     ensures { Gives (λ _. W.numbers f.new) result (numbers_of w.now.d (left words.entry)) }
 {
     let mut n: usize = 0;
     for word in words {
         let x = number(word, w.d)?;
-        if n < 256 {
-            f[n] = W::narrow(x);
-        }
+        put(f, n, x);
         n += 1;
     }
     if n == 256 {

@@ -23,7 +23,7 @@ pub trait Scheme: Packed {
 
     const OTHER_WIDTH: Problem;
 
-    // A row of its words has room in memory.
+    // A row of 256 of its words has room in memory.
     ghost has_room: { 256 * type_size Self.row < 2 ^ 63 };
 
     // They are the widths at which its words are packed.
@@ -70,7 +70,7 @@ impl Scheme for u32 {
 #[derive(Drop)]
 pub struct Width<W: Packed> {
     pub d: usize,
-    words: PhantomData<W>,
+    of: PhantomData<W>,
     ghost ok: { T (W.width d) },
 }
 
@@ -84,10 +84,7 @@ impl<W: Scheme> FromStr for Width<W> {
     fn from_str(word: &str) -> Result<Width<W>, Problem> {
         let d = word.parse::<usize>()?;
         if W::WIDTHS.contains(&d) {
-            Ok(Width {
-                d,
-                words: PhantomData,
-            })
+            Ok(Width { d, of: PhantomData })
         } else {
             Err(W::OTHER_WIDTH)
         }
