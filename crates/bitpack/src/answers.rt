@@ -9,9 +9,9 @@ ghost use Rattle.bitpack.specs.Answers.{numbers_shown, pack_answer, unpack_answe
 use crate::line::LineWords;
 use crate::problem::Problem;
 use crate::read::{bytes, numbers};
-use crate::width::{Scheme, Width};
+use crate::width::{Scheme, width};
 use hex_digits::hex_text;
-use packing::{Packed, pack, unpack};
+use packing::{Packed, Width, pack, unpack};
 use std::alloc::{AllocError, Global};
 use std::fmt::Write;
 use words::Word;
@@ -32,31 +32,31 @@ fn shown<W: Word>(heap: Global, f: &[W]) -> Result<String, AllocError>
 }
 
 // The digits of numbers packed.
-fn packed<W: Packed>(heap: Global, w: &Width<W>, f: &[W; 256]) -> Result<String, AllocError>
-    ensures { IfOk result (λ text. string_bytes text ≡ hex_of (pack w.now.d (W.numbers f.now))) }
+fn packed<W: Packed>(heap: Global, w: Width<W>, f: &[W; 256]) -> Result<String, AllocError>
+    ensures { IfOk result (λ text. string_bytes text ≡ hex_of (pack w.bits (W.numbers f.now))) }
 {
     let mut room = [0u8; 640];
-    let out = &mut room[..32 * w.d];
-    pack(w.d, f, out);
+    let out = &mut room[..32 * w.bits];
+    pack(w, f, out);
     hex_text(heap, out)
 }
 
 // The numbers in as many bytes.
-fn unpacked<W: Packed>(w: &Width<W>, bs: &[u8]) -> [W; 256]
-    requires { length bs.now ≡ 32 * w.now.d }
-    ensures { W.numbers result ≡ unpack w.now.d 256 bs.now }
+fn unpacked<W: Packed>(w: Width<W>, bs: &[u8]) -> [W; 256]
+    requires { length bs.now ≡ 32 * w.bits }
+    ensures { W.numbers result ≡ unpack w.bits 256 bs.now }
 {
     let mut f = [W::narrow(0); 256];
-    unpack(w.d, bs, &mut f);
+    unpack(w, bs, &mut f);
     f
 }
 
 // The answer to the numbers behind a width.
 fn pack_line<W: Scheme>(heap: Global, w: Width<W>, words: LineWords<'_>) -> Result<String, Problem>
-    ensures { Gives string_bytes result (pack_answer w.d (left words.entry)) }
+    ensures { Gives string_bytes result (pack_answer w.bits (left words.entry)) }
 {
-    let f = numbers(words, &w)?;
-    Ok(packed(heap, &w, &f)?)
+    let f = numbers(words, w)?;
+    Ok(packed(heap, w, &f)?)
 }
 
 // The answer to the digits behind a width.
@@ -65,10 +65,10 @@ fn unpack_line<W: Scheme>(
     w: Width<W>,
     words: LineWords<'_>,
 ) -> Result<String, Problem>
-    ensures { Gives string_bytes result (unpack_answer w.d (left words.entry)) }
+    ensures { Gives string_bytes result (unpack_answer w.bits (left words.entry)) }
 {
-    let bs = bytes(heap, words, 32 * w.d)?;
-    Ok(shown(heap, &unpacked(&w, &bs))?)
+    let bs = bytes(heap, words, 32 * w.bits)?;
+    Ok(shown(heap, &unpacked(w, &bs))?)
 }
 
 // The answer to `pack` or `unpack`, a width and what is behind it.
@@ -77,8 +77,8 @@ fn command<W: Scheme>(heap: Global, mut words: LineWords<'_>) -> Result<String, 
     ensures { Gives string_bytes result (command_answer W.width W.OTHER_WIDTH (left words.entry)) }
 {
     match (words.next(), words.next()) {
-        (Some("pack"), Some(width)) => pack_line::<W>(heap, width.parse()?, words),
-        (Some("unpack"), Some(width)) => unpack_line::<W>(heap, width.parse()?, words),
+        (Some("pack"), Some(word)) => pack_line::<W>(heap, width(word)?, words),
+        (Some("unpack"), Some(word)) => unpack_line::<W>(heap, width(word)?, words),
         _ => Err(Problem::Usage),
     }
 }

@@ -6,9 +6,8 @@ ghost use Rattle.bitpack.specs.Answers.{number_of, numbers_of, bytes_in};
 
 use crate::line::LineWords;
 use crate::problem::Problem;
-use crate::width::Width;
 use hex_digits::read_hex;
-use packing::Packed;
+use packing::{Packed, Width};
 use std::alloc::Global;
 use words::Word;
 
@@ -41,14 +40,14 @@ fn put<W: Word>(f: &mut [W; 256], n: usize, x: u32)
 #[tactic(auto, using(crate::proofs::Gathered::gathered_steps))]
 fn read_numbers<W: Packed>(
     words: LineWords<'_>,
-    w: &Width<W>,
+    w: Width<W>,
     f: &mut [W; 256],
 ) -> Result<(), Problem>
-    ensures { Gives (λ _. W.numbers f.new) result (numbers_of w.now.d (left words.entry)) }
+    ensures { Gives (λ _. W.numbers f.new) result (numbers_of w.bits (left words.entry)) }
 {
     let mut n: usize = 0;
     for word in words {
-        let x = number(word, w.d)?;
+        let x = number(word, w.bits)?;
         put(f, n, x);
         n += 1;
     }
@@ -60,8 +59,8 @@ fn read_numbers<W: Packed>(
 }
 
 // The 256 numbers that the words write.
-pub fn numbers<W: Packed>(words: LineWords<'_>, w: &Width<W>) -> Result<[W; 256], Problem>
-    ensures { Gives W.numbers result (numbers_of w.now.d (left words.entry)) }
+pub fn numbers<W: Packed>(words: LineWords<'_>, w: Width<W>) -> Result<[W; 256], Problem>
+    ensures { Gives W.numbers result (numbers_of w.bits (left words.entry)) }
 {
     let mut f = [W::narrow(0); 256];
     read_numbers(words, w, &mut f)?;

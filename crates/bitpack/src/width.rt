@@ -7,9 +7,8 @@ ghost use Rattle.bitpack.specs.Problems.{Gives};
 ghost use Rattle.bitpack.specs.Answers.{width_of};
 
 use crate::problem::Problem;
-use packing::Packed;
+use packing::{Packed, Width};
 use std::marker::PhantomData;
-use std::str::FromStr;
 
 // A scheme, by the words that its numbers are held in.
 pub trait Scheme: Packed {
@@ -66,27 +65,18 @@ impl Scheme for u32 {
     ghost all_widths = { dsa_all };
 }
 
-// A width in bits of a scheme's numbers.
-#[derive(Drop)]
-pub struct Width<W: Packed> {
-    pub d: usize,
-    of: PhantomData<W>,
-    ghost ok: { T (W.width d) },
-}
-
 // The width that a word writes.
-impl<W: Scheme> FromStr for Width<W> {
-    type Err = Problem;
-
-    ghost from_str_gives = { λ word r. Gives (λ w. w.d) r (width_of W.width W.OTHER_WIDTH word) };
-
-    #[tactic(auto, using(crate::proofs::Parsed::width_steps))]
-    fn from_str(word: &str) -> Result<Width<W>, Problem> {
-        let d = word.parse::<usize>()?;
-        if W::WIDTHS.contains(&d) {
-            Ok(Width { d, of: PhantomData })
-        } else {
-            Err(W::OTHER_WIDTH)
-        }
+#[tactic(auto, using(crate::proofs::Parsed::width_steps))]
+pub fn width<W: Scheme>(word: &str) -> Result<Width<W>, Problem>
+    ensures { Gives (λ w. w.bits) result (width_of W.width W.OTHER_WIDTH word.now) }
+{
+    let bits = word.parse::<usize>()?;
+    if W::WIDTHS.contains(&bits) {
+        Ok(Width {
+            bits,
+            of: PhantomData,
+        })
+    } else {
+        Err(W::OTHER_WIDTH)
     }
 }
