@@ -1,5 +1,5 @@
 -- The first word of a text, as `split_whitespace` gives it, and the words after it.
-use Rattle.std.proofs.Common.{◌≡◌, ℕ, ◌+◌, ◌<◌, ◌≤◌, Bool, true, false, not, cond, ◌&&◌, List, [], ◌∷◌, ◌++◌, length, map, Option, None, Some, MatchOption, Bor, sym, refl, ap, ap₂, ◌∙◌, append_assoc, append-nil, arith, length-append}
+use Rattle.std.proofs.Common.{◌≡◌, ℕ, ◌<◌, Bool, true, false, not, cond, ◌&&◌, List, [], ◌∷◌, ◌++◌, length, map, Option, None, Some, MatchOption, Bor, sym, refl, ap, ap₂, ◌∙◌, append_assoc, append-nil, arith, length-append}
 use Rattle.std.specs.Prelude.{IsUtf8, encode_utf8_all, filter}
 use Rattle.std.specs.Char.{is_whitespace, encode_utf8}
 use Rattle.std.specs.List.{slice_split, onto_first}
@@ -7,10 +7,8 @@ use Rattle.std.specs.Str.{NonePass, EmptyOrStartsWithPassing, all_scalars}
 use Rattle.std.specs.Str.Iter.{split_whitespace_rest, split_whitespace_steps}
 use Rattle.std.specs.declared.str.SplitWhitespace.{SplitWhitespace}
 use Rattle.std.proofs.lemmas.Bool.Decides.{nat_tests}
-use Rattle.std.proofs.lemmas.List.Splits.{length-slice_split, slice_split-cons_yes, slice_split-cons_no}
-use Rattle.std.proofs.lemmas.Str.{cons_from_encodes, chars-encodes, encodes_same, encode_same, length-encode, len_utf8_bounds, length-le-encodes}
-use Rattle.std.proofs.lemmas.List.{length-map}
-use Rattle.std.proofs.lemmas.List.Sums.{count_by-le-length, length-filter}
+use Rattle.std.proofs.lemmas.List.Splits.{slice_split-cons_yes, slice_split-cons_no}
+use Rattle.std.proofs.lemmas.Str.{cons_from_encodes, chars-encodes, encodes_same, encode_same, length-encode, len_utf8_bounds}
 use Rattle.lines.specs.Words.{is_word, words_in, words_of}
 
 not_not : (b : Bool) → not b ≡ false → b ≡ true
@@ -99,10 +97,3 @@ next_word s t (Some x) (ds, (ok, is)) (gap, split, some, (gs, gs_is, blank), (ws
     ap words_in (ds_is ∙ ap (λ l. gs ++ l) es_parts) ∙ gap_first is_whitespace gs (ws ++ fs) blank
     ∙ word_first is_whitespace ws fs (nonempty ws (rw ws_is some)) solid (begins fs more (rw fs_is ends)) in
     (ap words_of (sym is) ∙ words_shown ds ok ∙ ap (map encode_utf8_all) first ∙ ap₂ (λ w l. w ∷ l) ws_is (sym (words_shown fs ok_fs) ∙ ap words_of fs_is), (fs, (ok_fs, fs_is)))
-
--- a text has at most one word more than it has bytes
-pub few_words : (text : List ℕ) → IsUtf8 text → length (words_of text) ≤ length text + 1
-few_words text (ds, (ok, is)) =
-    let parts = slice_split is_whitespace ds in
-    let long : length (shown ds) ≤ length ds + 1 = omega (arith, length-map (words_in ds) encode_utf8_all, length-filter is_word parts, count_by-le-length is_word parts, length-slice_split is_whitespace ds, count_by-le-length is_whitespace ds) in
-    omega (arith, ap length (ap words_of (sym is) ∙ words_shown ds ok), long, length-le-encodes ds, ap length is)

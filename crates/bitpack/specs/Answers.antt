@@ -55,7 +55,7 @@ abbrev pub bytes_in : ℕ → List (List ℕ) → Result (List ℕ) Problem
 bytes_in want [] = Err Usage
 bytes_in want (word ∷ words) = cond (is_hex word) (wanted want (bytes_of word)) (Err NotHex)
 
--- ---- numbers as they are printed, a space before each but the first
+-- ---- numbers as they are printed, a space before each but the first; `decimal` is what std says that `{}` writes of a number
 unfoldable pub behind : List ℕ → List ℕ
 behind [] = []
 behind (x ∷ xs) = codes " " ++ (decimal x ++ behind xs)
