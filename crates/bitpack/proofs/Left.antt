@@ -10,7 +10,7 @@ use Rattle.std.proofs.lemmas.List.Splits.{length-slice_split}
 use Rattle.std.proofs.lemmas.List.Sums.{count_by-le-length, length-filter}
 use Rattle.std.proofs.lemmas.Str.{IsUtf8-had, chars-encodes, length-le-encodes}
 use Rattle.lines.specs.Words.{is_word, words_in, words_of}
-use Rattle.bitpack.proofs.Split.{next_word}
+use Rattle.lines.proofs.Split.{next_word}
 
 abbrev words : SplitWhitespace → List (List ℕ)
 words s = words_of (split_whitespace_rest s)

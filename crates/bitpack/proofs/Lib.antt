@@ -3,5 +3,4 @@ mod Gathered
 mod Left
 mod Parsed
 mod Printed
-mod Split
 mod Written

@@ -1,4 +1,4 @@
 mod FirstLine
 mod Loop
-mod Split
+pub mod Split
 pub mod Weaker
