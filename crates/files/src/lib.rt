@@ -1,4 +1,4 @@
-// What the programs answer, as functions of the words and files that they are given. The mains only read and print.
+// What `kem` answers, as functions of the words and files that it is given. The main only reads and prints.
 #![tactic(auto)]
 
 pub mod kem;
@@ -8,7 +8,8 @@ pub mod texts;
 // Exchanges by the plain hashes: nothing in ML-KEM rests on FIPS 202.
 #[cfg(test)]
 mod tests {
-    use sets::types::{KemSet, Refusal};
+    use sets::types::KemSet;
+    use sets::verdict;
     use std::alloc::Global;
     use std::process::Abort;
     use std::test::Fail;
@@ -61,14 +62,14 @@ mod tests {
         ek.resize(p.ek_length(), 0)?;
         let mut c = vec![in heap; 9u8; p.text_length()]?;
         let mut key = [9u8; 32];
-        let done = mlkem::encapsulate::<plain::Plain>(
+        let n = verdict(mlkem::encapsulate::<plain::Plain>(
             set,
             ek.as_slice(),
             &[7; 32],
             &mut key,
             c.as_mut_slice(),
-        );
-        assert_eq!(rt; done, Err(Refusal::Draw));
+        ));
+        assert_eq!(rt; n, 4);
         assert_eq!(rt; key, [9; 32]);
         assert_eq!(rt; c, vec![in heap; 9u8; p.text_length()]?);
         Ok(())

@@ -21,7 +21,7 @@ use sets::types::KemSet;
 
 // The rows of u: column i of the matrix times y, and noise, compressed.
 fn u_rows<H: Hash>(p: KemSet, r: &[u8], a: &[[u16; 256]], y: &[[u16; 256]], u: &mut [[u16; 256]])
-    requires matrix { length a.now ≡ p.k * p.k }
+    requires matrix { p.k * p.k ≤ length a.now }
     requires rows { (length y.now ≡ p.k) × (length u.old ≡ p.k) }
     requires left { RowsBelow 3329 (p.k * p.k) a.now }
     requires right { RowsBelow 3329 p.k y.now }
@@ -84,7 +84,7 @@ pub fn encrypt<H: Hash>(
     r: &[u8],
     text: &mut [u8],
 )
-    requires matrix { length a.now ≡ p.k * p.k }
+    requires matrix { p.k * p.k ≤ length a.now }
     requires entries { RowsAre (p.k * p.k) (entry_at H.Hash.hashes p.k (ek_rho (kem_numbers p) ek.now)) a.now }
     requires below { RowsBelow 3329 (p.k * p.k) a.now }
     requires key { 384 * p.k ≤ length ek.now }

@@ -37,7 +37,7 @@ fn t_rows<H: Hash>(
     s: &[[u16; 256]],
     t: &mut [[u16; 256]],
 )
-    requires matrix { length a.now ≡ p.k * p.k }
+    requires matrix { p.k * p.k ≤ length a.now }
     requires rows { (length s.now ≡ p.k) × (length t.old ≡ p.k) }
     requires left { RowsBelow 3329 (p.k * p.k) a.now }
     requires right { RowsBelow 3329 p.k s.now }

@@ -146,7 +146,7 @@ impl<'a> DecapsulationKey<'a> {
 
     // The key of a ciphertext, with the matrix drawn already. The ciphertext is made again and compared whole, and the key is chosen by a mask.
     pub fn decapsulate<H: Hash>(&self, a: &[[u16; 256]], c: &[u8], key: &mut [u8; 32])
-        requires matrix { length a.now ≡ self.now.set.k * self.now.set.k }
+        requires matrix { self.now.set.k * self.now.set.k ≤ length a.now }
         requires entries { let p = kem_numbers self.now.set in
             RowsAre (p.k * p.k) (entry_at H.Hash.hashes p.k (ek_rho p (dk_ek p self.now.bytes.now))) a.now }
         requires below { let k = self.now.set.k in RowsBelow 3329 (k * k) a.now }
