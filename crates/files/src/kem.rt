@@ -1,4 +1,5 @@
 // What `kem` answers, over any hashes. A set goes by its number up to the call, whose answer to a number of no set is part of what is stated.
+// Each command is a function of its own, with the answer that it promises; what they share is in `told` and `both`.
 ghost use Rattle.std.specs.Prelude.{◌≡◌, IfOk};
 ghost use Rattle.standards.specs.Hashes.{Hashes};
 ghost use Rattle.files.specs.Texts.{text_of};

@@ -51,7 +51,8 @@ impl<const RATE: usize> Xof for Shake<RATE> {
     }
 }
 
-// SHA3-256 or SHA3-512 while it takes its message.
+// SHA3-256 or SHA3-512 while it takes its message. It is a type beside `Shake`, since one gives N bytes and the other a stream: the traits keep
+// them apart, and the suffix is all that they have in common.
 #[derive(Drop)]
 pub struct Sha3<const RATE: usize, const N: usize> {
     sponge: Sponge<RATE>,
@@ -80,6 +81,7 @@ impl<const RATE: usize, const N: usize> Digest<N> for Sha3<RATE, N> {
 
 pub struct Fips202;
 
+// The standard's functions by their names, so they come in pairs, of a line or four each.
 impl Hash for Fips202 {
     type Reader128 = Squeezer<168>;
 

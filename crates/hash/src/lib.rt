@@ -60,6 +60,7 @@ pub trait FourReaders {
         ensures onward { rests self.new ≡ later_four (length a.old) (rests self.old) };
 }
 
+// Each of FIPS 202's functions has its name here, so SHAKE128 and SHAKE256 come in pairs; what they share is in `finish_after` and `absorb_all`.
 pub trait Hash {
     type Reader128: Reader + Drop;
 

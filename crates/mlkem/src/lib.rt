@@ -1,6 +1,6 @@
 // ML-KEM over any hashes, one code for the three sets: the calls on lent bytes, by set number. First all checks, then the first write: what is
 // refused leaves every lent byte as it was.
-// A set comes as a number, so that a call can refuse one that there is not.
+// A set comes as a number, so that a call can refuse one that there is not. Rooms are for the largest set, since memory is fixed.
 #![tactic(auto)]
 
 ghost use Rattle.std.specs.Prelude.{◌≡◌, length};

@@ -50,7 +50,7 @@ pub struct Width<W: Packed> {
     pub ghost known: { T (W.width bits) },
 }
 
-// By hand: a derive is refused for a type with a parameter and a ghost field.
+// By hand: a derive, `derive_where` too, is refused for a type with a parameter and a ghost field.
 impl<W: Packed> Clone for Width<W> {
     ghost is_clone = { λ x y. y ≡ x };
 

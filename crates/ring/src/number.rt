@@ -1,7 +1,6 @@
 // Numbers modulo q, each in one machine word and below q: 3329 in `u16` for ML-KEM, 8380417 in `u32` for ML-DSA.
 // All that follows is written once over this trait. A faster way of reducing changes nothing but the bodies here.
 ghost use Rattle.std.specs.Prelude.{◌≡◌, ℕ, ◌<◌};
-ghost use Rattle.standards.specs.Ring.{zero_p};
 ghost use Rattle.algebra.specs.Modular.{add_m, sub_m, mul_m};
 ghost use Rattle.std.proofs.Common.{lit<};
 
@@ -23,10 +22,6 @@ pub trait Modular: Word {
         requires { (Self.value self < q) × (Self.value other < q) }
         ensures { Self.value result ≡ mul_m q (Self.value self) (Self.value other) };
 
-    // The polynomial 0.
-    fn zero() -> [Self; 256]
-        ensures { Self.numbers result ≡ zero_p };
-
     ghost positive: { 0 < q };
 }
 
@@ -36,10 +31,6 @@ impl Modular for u16 {
     ghost q = { 3329 };
 
     ghost positive = { lit< tt };
-
-    fn zero() -> [u16; 256] {
-        [0u16; 256]
-    }
 
     fn add_mod(self, other: u16) -> u16 {
         (self + other) % 3329
@@ -59,10 +50,6 @@ impl Modular for u32 {
     ghost q = { 8380417 };
 
     ghost positive = { lit< tt };
-
-    fn zero() -> [u32; 256] {
-        [0u32; 256]
-    }
 
     fn add_mod(self, other: u32) -> u32 {
         (self + other) % 8380417

@@ -1,4 +1,5 @@
-// Polynomials number by number, in place. Any of the numbers may be a secret: the loops run over all places.
+// Polynomials number by number, in place. Any of the numbers may be a secret: loops go by index, which lowers to plain code that reads the same
+// places whatever they are. Each has its own operation and its own clause, so they are a loop each.
 ghost use Rattle.std.specs.Prelude.{◌≡◌, ◌<◌, T, map};
 ghost use Rattle.standards.specs.Lists.{all_below};
 ghost use Rattle.standards.specs.Ring.{Poly, add_p, sub_p};

@@ -12,7 +12,7 @@ pub struct Poly<F: Modular> {
     ghost below: { T (all_below F.q (F.numbers c)) },
 }
 
-// By hand: a derive is refused for a type with a parameter and a ghost field.
+// By hand: a derive, `derive_where` too, is refused for a type with a parameter and a ghost field.
 impl<F: Modular> Clone for Poly<F> {
     ghost is_clone = { λ x y. y ≡ x };
 
@@ -29,6 +29,8 @@ impl<F: Modular> Poly<F> {
     pub fn zero() -> Self
         ensures { F.numbers result.c ≡ zero_p }
     {
-        Poly { c: F::zero() }
+        Poly {
+            c: [F::narrow(0); 256],
+        }
     }
 }

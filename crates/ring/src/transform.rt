@@ -43,7 +43,8 @@ pub trait Transform: Modular + 'static {
     ghost inverse: { (f : List ℕ) → ntt_inv f ≡ scaled Self.q last (inverse_layers Self.q (zeta_table Self.q root LAYERS) LAYERS LAYERS f) };
 }
 
-// The layer with the longest blocks comes first.
+// The layer with the longest blocks comes first. Over any factors and any number of layers, which `ntt` takes from the scheme: what is proved of
+// layers is apart from the two schemes' laws.
 fn forward<F: Modular>(f: &mut [F; 256], zetas: &[F], layers: usize)
     requires few { layers ≤ 8 }
     requires factors { Factors F.q (2 ^ layers) (map F.value zetas.now) }
