@@ -11,13 +11,14 @@ ghost use Rattle.algebra.specs.RowArrays.{RowsBelow, RowsAre};
 ghost use Rattle.sets.specs.Sets.{kem_numbers};
 ghost use Rattle.kpke.specs.Matrix.{entry_at, u_row, v_row};
 
-use crate::rows::{decode_rows, dot, encode_rows, small_poly, small_rows};
+use crate::vectors::{decode_rows, dot, small_poly, small_rows};
 use hash::Hash;
 use mlkem_parts::encoding::{MESSAGE_BITS, mu};
 use mlkem_parts::rounding::{compress, decompress};
 use packing::{pack, unpack};
 use ring::pointwise::{add, sub};
 use ring::transform::{ntt, ntt_inverse};
+use rows::pack_rows;
 use sets::types::KemSet;
 
 // The rows of u: column i of the matrix times y, and noise, compressed.
@@ -72,7 +73,7 @@ fn write_text(p: KemSet, u: &[[u16; 256]], v: &[u16; 256], text: &mut [u8])
     ensures { text.new ≡ joined (tables p.k (λ i. pack p.du.bits (row_at u.now i))) ++ pack p.dv.bits v.now }
 {
     let n = 32 * p.du.bits * p.k;
-    encode_rows(p.du, u, &mut text[0..n]);
+    pack_rows(p.du, u, &mut text[0..n]);
     pack(p.dv, v, &mut text[n..n + 32 * p.dv.bits]);
 }
 

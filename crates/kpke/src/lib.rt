@@ -3,4 +3,4 @@
 #![tactic(auto)]
 
 pub mod cipher;
-pub mod rows;
+pub mod vectors;

@@ -4,12 +4,11 @@
 
 ghost use Rattle.std.specs.Prelude.{◌≡◌, ◌+◌, ◌*◌, ◌<◌, ◌≤◌, length, take, drop};
 ghost use Rattle.standards.specs.Lists.{row_at, tables, joined};
-ghost use Rattle.standards.specs.Bytes.{pack};
 ghost use Rattle.standards.specs.MlDsaParts.{bit_pack, bit_unpack};
 ghost use Rattle.algebra.specs.RowArrays.{RowsBelow};
 
 use mldsa_parts::encoding::{bit_pack, bit_unpack};
-use packing::{Width, pack};
+use packing::Width;
 
 // BitUnpack of each row, out of bytes from `start` on.
 pub fn bit_unpack_rows(d: Width<u32>, b: u32, bs: &[u8], start: usize, v: &mut [[u32; 256]])
@@ -36,16 +35,5 @@ pub fn bit_pack_rows(d: Width<u32>, b: u32, v: &[[u32; 256]], out: &mut [u8])
     let w = 32 * d.bits;
     for i in 0..v.len() {
         bit_pack(d, b, &v[i], &mut out[w * i..w * i + w]);
-    }
-}
-
-// SimpleBitPack of each row.
-pub fn simple_bit_pack_rows(d: Width<u32>, v: &[[u32; 256]], out: &mut [u8])
-    requires long { length out.old ≡ 32 * d.bits * length v.now }
-    ensures { out.new ≡ joined (tables (length v.now) (λ i. pack d.bits (row_at v.now i))) }
-{
-    let w = 32 * d.bits;
-    for i in 0..v.len() {
-        pack(d, &v[i], &mut out[w * i..w * i + w]);
     }
 }

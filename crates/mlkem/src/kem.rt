@@ -12,10 +12,11 @@ ghost use Rattle.sets.specs.Sets.{kem_numbers, verdict_of};
 ghost use Rattle.mlkem.specs.PublicRows.{t_row};
 
 use hash::Hash;
-use kpke::rows::{dot, encode_rows, expand, small_poly, small_rows};
+use kpke::vectors::{dot, expand, small_poly, small_rows};
 use mlkem_parts::encoding::KEY_BITS;
 use ring::pointwise::add;
 use ring::transform::ntt;
+use rows::pack_rows;
 use sets::types::{KemSet, Refusal};
 
 // G of d and the byte k, cut in two.
@@ -60,7 +61,7 @@ fn write_ek(t: &[[u16; 256]], rho: &[u8], ek: &mut [u8])
     ensures { ek.new ≡ joined (tables (length t.now) (λ i. pack 12 (row_at t.now i))) ++ rho.now }
 {
     let k = t.len();
-    encode_rows(KEY_BITS, t, &mut ek[0..384 * k]);
+    pack_rows(KEY_BITS, t, &mut ek[0..384 * k]);
     ek[384 * k..384 * k + 32].copy_from_slice(rho);
 }
 
@@ -71,7 +72,7 @@ fn write_dk<H: Hash>(s: &[[u16; 256]], ek: &[u8], z: &[u8; 32], dk: &mut [u8])
 {
     let k = s.len();
     let h = H::sha3_256(ek);
-    encode_rows(KEY_BITS, s, &mut dk[0..384 * k]);
+    pack_rows(KEY_BITS, s, &mut dk[0..384 * k]);
     dk[384 * k..768 * k + 32].copy_from_slice(ek);
     dk[768 * k + 32..768 * k + 64].copy_from_slice(&h);
     dk[768 * k + 64..768 * k + 96].copy_from_slice(z);

@@ -10,8 +10,9 @@ ghost use Rattle.kpke.specs.Matrix.{entry_at};
 
 use hash::Hash;
 use kpke::cipher::{decrypt, encrypt};
-use kpke::rows::{decode_rows, encode_rows, expand};
+use kpke::vectors::{decode_rows, expand};
 use mlkem_parts::encoding::KEY_BITS;
+use rows::pack_rows;
 use select::{choose, differ};
 use sets::types::{KemSet, Refusal};
 
@@ -24,7 +25,7 @@ fn repacked(p: KemSet, ek: &[u8], room: &mut [u8]) -> bool
     let mut t_room = [[0u16; 256]; 4];
     let t = &mut t_room[0..p.k];
     decode_rows(ek, t);
-    encode_rows(KEY_BITS, t, room);
+    pack_rows(KEY_BITS, t, room);
     differ(room, &ek[0..384 * p.k]) == 0
 }
 

@@ -1,5 +1,5 @@
 use Rattle.std.proofs.Common.{◌*◌, length, arith}
-use Rattle.mldsa_vectors.proofs.PackedRows.{packed_none, packed_next}
+use Rattle.rows.proofs.PackedRows.{packed_none, packed_next}
 use Rattle.mldsa_vectors.proofs.encodings.bit_pack_rows.Goals as goal
 
 pub loop-i-init : goal.loop-i-init

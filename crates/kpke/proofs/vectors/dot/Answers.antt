@@ -2,7 +2,7 @@ use Rattle.std.proofs.Common.{refl, ap, ◌∙◌, arith}
 use Rattle.standards.specs.Lists.{all_below}
 use Rattle.standards.specs.Ring.{add_p}
 use Rattle.algebra.proofs.PolySums.{sum_p_none, sum_p_more}
-use Rattle.kpke.proofs.rows.dot.Goals as goal
+use Rattle.kpke.proofs.vectors.dot.Goals as goal
 
 pub loop-j-init : goal.loop-j-init
 unfolding all_below

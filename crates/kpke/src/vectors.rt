@@ -1,8 +1,7 @@
-// Vectors and matrices as slices of plain rows: drawing, products, encodings.
+// Vectors and matrices as slices of plain rows: drawing, products, decoding.
 // Loops go by row: the rows may be secret, and this form lowers to plain code that reads the same places whatever they hold.
 ghost use Rattle.std.specs.Prelude.{◌≡◌, ℕ, ◌+◌, ◌*◌, ◌^◌, ◌<◌, ◌≤◌, T, length, OnOk, if◌then◌else◌};
-ghost use Rattle.standards.specs.Lists.{row_at, tables, joined, all_below};
-ghost use Rattle.standards.specs.Bytes.{pack};
+ghost use Rattle.standards.specs.Lists.{row_at, all_below};
 ghost use Rattle.standards.specs.Ring.{sum_p};
 ghost use Rattle.standards.specs.MlKemParts.{ntt as kem_ntt, multiply_ntts};
 ghost use Rattle.standards.specs.MlKem.{small, key_row, matrix_drawn};
@@ -14,7 +13,6 @@ use hash::Hash;
 use mlkem_parts::encoding::byte_decode_12;
 use mlkem_parts::noise::sample_poly_cbd;
 use mlkem_parts::uniform::sample_ntt;
-use packing::{Width, pack};
 use ring::kem::multiply_add;
 use ring::transform::ntt;
 use sets::types::{Eta, KemSet, Refusal};
@@ -56,18 +54,6 @@ pub fn dot(a: &[[u16; 256]], first: usize, step: usize, s: &[[u16; 256]], out: &
     *out = [0; 256];
     for j in 0..s.len() {
         multiply_add(out, &a[first + step * j], &s[j]);
-    }
-}
-
-// The rows one after the other, d bits for each number.
-#[tactic(auto, using(algebra::proofs::RowArrays::put_row, algebra::proofs::RowArrays::joined_none))]
-pub fn encode_rows(d: Width<u16>, v: &[[u16; 256]], out: &mut [u8])
-    requires { length out.old ≡ 32 * d.bits * length v.now }
-    ensures { out.new ≡ joined (tables (length v.now) (λ i. pack d.bits (row_at v.now i))) }
-{
-    let w = 32 * d.bits;
-    for i in 0..v.len() {
-        pack(d, &v[i], &mut out[w * i..w * i + w]);
     }
 }
 

@@ -2,7 +2,7 @@ use Rattle.std.proofs.Common.{◌≡◌, ◌+◌, ◌*◌, T, length}
 use Rattle.standards.specs.Lists.{row_at, all_below}
 use Rattle.standards.specs.Ring.{sum_p}
 use Rattle.standards.specs.MlKemParts.{multiply_ntts}
-use Rattle.kpke.proofs.rows.dot.Given as goal
+use Rattle.kpke.proofs.vectors.dot.Given as goal
 
 abbrev pub invariant-loop-j : goal.invariant-loop-j
 invariant-loop-j l =

@@ -2,7 +2,7 @@ use Rattle.std.proofs.Common.{◌*◌, ap, ◌∙◌, arith, length}
 use Rattle.standards.specs.MlKemParts.{byte_decode12}
 use Rattle.algebra.proofs.Parts.{part_is}
 use Rattle.algebra.proofs.RowArrays.{fill_row}
-use Rattle.kpke.proofs.rows.decode_rows.Goals as goal
+use Rattle.kpke.proofs.vectors.decode_rows.Goals as goal
 
 pub loop-i-preserved : goal.loop-i-preserved
 loop-i-preserved c =

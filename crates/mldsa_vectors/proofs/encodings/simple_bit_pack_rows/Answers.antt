@@ -1,9 +1,0 @@
-use Rattle.std.proofs.Common.{◌*◌, length, arith}
-use Rattle.mldsa_vectors.proofs.PackedRows.{packed_none, packed_next}
-use Rattle.mldsa_vectors.proofs.encodings.simple_bit_pack_rows.Goals as goal
-
-pub loop-i-init : goal.loop-i-init
-loop-i-init c = packed_none (32 * c.args.d.bits) _ c.args.out.now
-
-pub loop-i-preserved : goal.loop-i-preserved
-loop-i-preserved c = packed_next (32 * c.args.d.bits) c.loop-i.i (length c.args.v.now) _ c.loop-i.out c.pack.new.out (omega arith) (omega arith) (omega arith) c.pack.ensures c.loop-i.invariant

@@ -1,7 +1,0 @@
-use Rattle.std.proofs.Common.{◌≡◌, ◌*◌, take}
-use Rattle.standards.specs.Lists.{row_at, joined, tables}
-use Rattle.standards.specs.Bytes.{pack}
-use Rattle.mldsa_vectors.proofs.encodings.simple_bit_pack_rows.Given as goal
-
-abbrev pub invariant-loop-i : goal.invariant-loop-i
-invariant-loop-i l = take (l.w * l.i) l.out ≡ joined (tables l.i (λ i. pack l.d.bits (row_at l.v i)))
