@@ -1,5 +1,5 @@
 // A polynomial that stands alone: its numbers are below q wherever it goes. The functions on rows work on `&mut p.c`, and what they ensure keeps
-// it so. Vectors and matrices are arrays of plain rows: one that is lent to be filled may hold anything before.
+// it so. Vectors and matrices are slices of plain rows: one that is lent to be filled may hold anything before.
 ghost use Rattle.std.specs.Prelude.{◌≡◌, T};
 ghost use Rattle.standards.specs.Lists.{all_below};
 ghost use Rattle.standards.specs.Ring.{zero_p};
