@@ -11,7 +11,7 @@ ghost use Rattle.algebra.specs.RowArrays.{RowsBelow, RowsAre};
 ghost use Rattle.sets.specs.Sets.{kem_numbers};
 ghost use Rattle.kpke.specs.Matrix.{entry_at, u_row, v_row};
 
-use crate::vectors::{decode_rows, dot, small_poly, small_rows};
+use crate::vectors::{decode_rows, small_poly, small_rows};
 use hash::Hash;
 use mlkem_parts::encoding::{MESSAGE_BITS, mu};
 use mlkem_parts::rounding::{compress, decompress};
@@ -19,6 +19,7 @@ use packing::{pack, unpack};
 use ring::pointwise::{add, sub};
 use ring::transform::{ntt, ntt_inverse};
 use rows::pack_rows;
+use rows::products::dot;
 use sets::types::KemSet;
 
 // The rows of u: column i of the matrix times y, and noise, compressed.

@@ -1,9 +1,8 @@
-// Vectors and matrices as slices of plain rows: drawing, products, decoding.
+// Vectors and matrices as slices of plain rows: drawing and decoding.
 // Loops go by row: the rows may be secret, and this form lowers to plain code that reads the same places whatever they hold.
-ghost use Rattle.std.specs.Prelude.{◌≡◌, ℕ, ◌+◌, ◌*◌, ◌^◌, ◌<◌, ◌≤◌, T, length, OnOk, if◌then◌else◌};
-ghost use Rattle.standards.specs.Lists.{row_at, all_below};
-ghost use Rattle.standards.specs.Ring.{sum_p};
-ghost use Rattle.standards.specs.MlKemParts.{ntt as kem_ntt, multiply_ntts};
+ghost use Rattle.std.specs.Prelude.{◌≡◌, ◌*◌, ◌^◌, ◌≤◌, T, length, OnOk, if◌then◌else◌};
+ghost use Rattle.standards.specs.Lists.{all_below};
+ghost use Rattle.standards.specs.MlKemParts.{ntt as kem_ntt};
 ghost use Rattle.standards.specs.MlKem.{small, key_row, matrix_drawn};
 ghost use Rattle.algebra.specs.RowArrays.{RowsBelow, RowsAre};
 ghost use Rattle.sets.specs.Sets.{kem_numbers, verdict_of};
@@ -13,7 +12,6 @@ use hash::Hash;
 use mlkem_parts::encoding::byte_decode_12;
 use mlkem_parts::noise::sample_poly_cbd;
 use mlkem_parts::uniform::sample_ntt;
-use ring::kem::multiply_add;
 use ring::transform::ntt;
 use sets::types::{Eta, KemSet, Refusal};
 
@@ -40,20 +38,6 @@ pub fn small_rows<H: Hash>(eta: Eta, s: &[u8], v: &mut [[u16; 256]])
         small_poly::<H>(eta, s, i as u8, &mut f);
         ntt(&mut f);
         v[i] = f;
-    }
-}
-
-// The sum over all rows j of s of the products of row first + step * j of a and row j of s: a row of the matrix, a column, or a vector, times s.
-pub fn dot(a: &[[u16; 256]], first: usize, step: usize, s: &[[u16; 256]], out: &mut [u16; 256])
-    requires within { (j : ℕ) → j < length s.now → first + step * j < length a.now }
-    requires left { (j : ℕ) → j < length s.now → T (all_below 3329 (row_at a.now (first + step * j))) }
-    requires right { RowsBelow 3329 (length s.now) s.now }
-    ensures value { out.new ≡ sum_p 3329 (length s.now) (λ j. multiply_ntts (row_at a.now (first + step * j)) (row_at s.now j)) }
-    ensures below { T (all_below 3329 out.new) }
-{
-    *out = [0; 256];
-    for j in 0..s.len() {
-        multiply_add(out, &a[first + step * j], &s[j]);
     }
 }
 

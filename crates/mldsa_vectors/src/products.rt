@@ -8,9 +8,10 @@ ghost use Rattle.standards.specs.Ring.{add_p, sub_p, sum_p};
 ghost use Rattle.standards.specs.MlDsaParts.{ntt as dsa_ntt, ntt_inv, multiply_ntt};
 ghost use Rattle.algebra.specs.RowArrays.{RowsBelow};
 
-use ring::dsa::{multiply_add, multiply_ntt};
+use ring::dsa::multiply_ntt;
 use ring::pointwise::{add, sub};
 use ring::transform::{ntt, ntt_inverse};
+use rows::products::dot;
 
 // NTT of each row.
 pub fn ntt_rows(v: &mut [[u32; 256]])
@@ -20,20 +21,6 @@ pub fn ntt_rows(v: &mut [[u32; 256]])
 {
     for i in 0..v.len() {
         ntt(&mut v[i]);
-    }
-}
-
-// The sum of the products of the rows of a, from `first` on, with those of s.
-pub fn dot(a: &[[u32; 256]], first: usize, s: &[[u32; 256]], out: &mut [u32; 256])
-    requires within { first + length s.now ≤ length a.now }
-    requires left { RowsBelow 8380417 (length a.now) a.now }
-    requires right { RowsBelow 8380417 (length s.now) s.now }
-    ensures value { out.new ≡ sum_p 8380417 (length s.now) (λ j. multiply_ntt (row_at a.now (first + j)) (row_at s.now j)) }
-    ensures below { T (all_below 8380417 out.new) }
-{
-    *out = [0; 256];
-    for j in 0..s.len() {
-        multiply_add(out, &a[first + j], &s[j]);
     }
 }
 
@@ -47,7 +34,7 @@ pub fn matrix_product(a: &[[u32; 256]], s: &[[u32; 256]], w: &mut [[u32; 256]])
 {
     for i in 0..w.len() {
         let mut f = [0u32; 256];
-        dot(a, s.len() * i, s, &mut f);
+        dot(a, s.len() * i, 1, s, &mut f);
         ntt_inverse(&mut f);
         w[i] = f;
     }

@@ -12,11 +12,12 @@ ghost use Rattle.sets.specs.Sets.{kem_numbers, verdict_of};
 ghost use Rattle.mlkem.specs.PublicRows.{t_row};
 
 use hash::Hash;
-use kpke::vectors::{dot, expand, small_poly, small_rows};
+use kpke::vectors::{expand, small_poly, small_rows};
 use mlkem_parts::encoding::KEY_BITS;
 use ring::pointwise::add;
 use ring::transform::ntt;
 use rows::pack_rows;
+use rows::products::dot;
 use sets::types::{KemSet, Refusal};
 
 // G of d and the byte k, cut in two.

@@ -6,6 +6,8 @@ ghost use Rattle.std.specs.Prelude.{◌≡◌, ◌*◌, [], length, get_or};
 ghost use Rattle.standards.specs.Lists.{tables, joined};
 ghost use Rattle.standards.specs.Bytes.{pack};
 
+pub mod products;
+
 use packing::{Packed, Width, pack};
 
 // ByteEncode and SimpleBitPack of each row: the rows one after the other, d bits for each number.
