@@ -2,10 +2,17 @@
 // places whatever they are. Each has its own operation and its own clause, so they are a loop each.
 ghost use Rattle.std.specs.Prelude.{◌≡◌, ◌<◌, T, map};
 ghost use Rattle.standards.specs.Lists.{all_below};
-ghost use Rattle.standards.specs.Ring.{Poly, add_p, sub_p};
+ghost use Rattle.standards.specs.Ring.{Poly, zero_p, add_p, sub_p};
 ghost use Rattle.algebra.specs.Modular.{scaled};
 
 use crate::number::Modular;
+
+// The polynomial 0.
+pub fn zero<F: Modular>() -> [F; 256]
+    ensures { F.numbers result ≡ zero_p }
+{
+    [F::narrow(0); 256]
+}
 
 // f := f + g
 pub fn add<F: Modular>(f: &mut [F; 256], g: &[F; 256])

@@ -5,6 +5,7 @@ ghost use Rattle.standards.specs.Lists.{all_below};
 ghost use Rattle.standards.specs.Ring.{zero_p};
 
 use crate::number::Modular;
+use crate::pointwise::zero;
 use std::alloc::AllocError;
 
 pub struct Poly<F: Modular> {
@@ -29,8 +30,6 @@ impl<F: Modular> Poly<F> {
     pub fn zero() -> Self
         ensures { F.numbers result.c ≡ zero_p }
     {
-        Poly {
-            c: [F::narrow(0); 256],
-        }
+        Poly { c: zero() }
     }
 }

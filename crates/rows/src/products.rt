@@ -6,6 +6,7 @@ ghost use Rattle.standards.specs.Ring.{add_p, sum_p};
 ghost use Rattle.standards.specs.MlKemParts.{multiply_ntts};
 ghost use Rattle.standards.specs.MlDsaParts.{multiply_ntt};
 
+use ring::pointwise::zero;
 use ring::transform::Transform;
 use ring::{dsa, kem};
 
@@ -53,7 +54,7 @@ pub fn dot<F: Products>(
     ensures value { F.numbers out.new ≡ sum_p F.q (length s.now) (λ j. F.product (F.numbers (get_or a.now (first + step * j) [])) (F.numbers (get_or s.now j []))) }
     ensures below { T (all_below F.q (F.numbers out.new)) }
 {
-    *out = F::zero();
+    *out = zero();
     for j in 0..s.len() {
         F::multiply_add(out, &a[first + step * j], &s[j]);
     }
