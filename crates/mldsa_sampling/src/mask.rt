@@ -15,9 +15,9 @@ pub fn expand_mask<H: Hash>(p: DsaSet, rho: &[u8], n: u16, f: &mut [u32; 256])
     ensures below { T (all_below 8380417 f.new) }
 {
     let d = p.z_bits();
-    let counter = [(n % 256) as u8, (n / 256) as u8];
+    let counter = n.to_le_bytes();
     let mut bytes = [0u8; 640];
     let part = &mut bytes[0..32 * d.bits];
     H::shake256_into(rho, &counter, part);
-    bit_unpack(d, 1u32 << p.gamma1_bits, part, f);
+    bit_unpack(d, p.gamma1(), part, f);
 }
