@@ -10,7 +10,6 @@ ghost use Rattle.standards.specs.Ring.{zero_p};
 ghost use Rattle.standards.specs.MlDsaParts.{places, hint_count, hint_bit_pack};
 ghost use Rattle.standards.specs.MlDsa.{sig_length, rising, marked, hints_rise, hint_padding_zero, hint_row};
 ghost use Rattle.sets.specs.Sets.{dsa_numbers};
-ghost use Rattle.mldsa_hints.specs.Rows.{between, row_rises};
 
 use sets::types::DsaSet;
 
@@ -100,23 +99,16 @@ fn rises(places: &[u8]) -> bool
     places.is_sorted_by(|a, b| a < b)
 }
 
-// Marks the places from begin to end in a row, if they rise and lie before omega.
-fn unpack_row(
-    omega: usize,
-    part: &[u8],
-    begin: usize,
-    end: usize,
-    row: &mut [u8; 256],
-) -> Result<(), Malformed>
-    requires { omega ≤ length part.now }
-    ensures good { is_ok result ≡ row_rises omega part.now begin end }
-    ensures row { OnOk result (row.new ≡ marked (between begin end part.now) zero_p) }
+// Marks places in a row, if they rise.
+fn unpack_row(places: &[u8], row: &mut [u8; 256]) -> Result<(), Malformed>
+    ensures good { is_ok result ≡ rising places.now }
+    ensures row { OnOk result (row.new ≡ marked places.now zero_p) }
 {
-    if begin > end || end > omega || !rises(&part[begin..end]) {
+    if !rises(places) {
         return Err(Malformed);
     }
     *row = [0u8; 256];
-    for x in &part[begin..end] {
+    for x in places {
         row[*x as usize] = 1;
     }
     Ok(())
@@ -129,11 +121,12 @@ pub fn hint_bit_unpack(p: DsaSet, sig: &[u8], hs: &mut [[u8; 256]]) -> Result<()
     ensures good { is_ok result ≡ hints_rise (dsa_numbers p) sig.now p.k && hint_padding_zero (dsa_numbers p) sig.now }
     ensures rows { OnOk result (hs.new ≡ tables p.k (hint_row (dsa_numbers p) sig.now)) }
 {
-    let part = &sig[p.lambda / 4 + 32 * (p.gamma1_bits + 1) * p.l..];
+    let part = &sig[p.c_length() + 32 * p.z_bits().bits * p.l..];
     let mut begin = 0;
     for (i, row) in hs.iter_mut().enumerate() {
         let end = part[p.omega + i] as usize;
-        unpack_row(p.omega, part, begin, end, row)?;
+        let places = part[..p.omega].get(begin..end).ok_or(Malformed)?;
+        unpack_row(places, row)?;
         begin = end;
     }
     if all_zero(&part[begin..p.omega]) {

@@ -4,4 +4,4 @@ use Rattle.standards.specs.MlDsa.{marked}
 use Rattle.mldsa_hints.proofs.unpack_row.Given as goal
 
 abbrev pub invariant-loop-x : goal.invariant-loop-x
-invariant-loop-x l = (length l.row ≡ 256) × (marked (drop l.x-index l.x-items) l.row ≡ marked l.x-items zero_p)
+invariant-loop-x l = (length l.row ≡ 256) × (marked (drop l.x-index l.places) l.row ≡ marked l.places zero_p)
