@@ -1,4 +1,5 @@
 // What follows from the numbers of a set of ML-DSA: widths, bounds and lengths.
+// Where a width has two cases, by eta or by gamma2, it is a function of that one number, and no field of its own that a set could have wrong.
 ghost use Rattle.std.specs.Prelude.{◌≡◌, ◌-◌, ◌/◌, ◌<◌, ◌≤◌};
 ghost use Rattle.standards.specs.MlDsaParts.{eta_bits, z_bits, w1_bits, gamma1 as gamma1_of, beta};
 ghost use Rattle.standards.specs.MlDsa.{pk_length, sk_length, sig_length};
@@ -45,11 +46,7 @@ impl DsaSet {
         ensures value { result ≡ gamma1_of (dsa_numbers self) }
         ensures below { result < 8380417 }
     {
-        if self.gamma1_bits == 17 {
-            131072
-        } else {
-            524288
-        }
+        1 << self.gamma1_bits
     }
 
     // What the norm of z has to be below: gamma1 - beta.
