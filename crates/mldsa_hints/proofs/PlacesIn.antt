@@ -1,6 +1,6 @@
 -- Places read and marked, row by row.
 use Rattle.std.proofs.Common.{◌≡◌, ℕ, zero, suc, ◌+◌, ◌-◌, ◌*◌, ◌/◌, ◌<◌, ◌≤◌, Bool, true, false, ◌&&◌, ltb, eqb, List, [], ◌∷◌, ◌++◌, Option, None, Some, length, get_or, take, drop, set, sym, refl, ap, ◌∙◌, subst, ap₂, inl, inr, add-one, arith}
-use Rattle.std.proofs.lemmas.List.{take_rest, length-drop, drop-take, take-take, length-take, length-take-le, take_more_set, at_drop_more, at_drop_all}
+use Rattle.std.proofs.lemmas.List.{take_rest, length-drop, drop-take, take-take, length-take, take_more_set, at_drop_more, at_drop_all}
 use Rattle.std.specs.List.{PartBy, AllAdjacentBelow, IsAllAdjacentAnswer, list_all}
 use Rattle.std.proofs.lemmas.Bool.{lt-leb, le-leb, leb-true, and_parts, and_from, and_left, and_right, cases_eq}
 use Rattle.std.proofs.lemmas.Bool.Decides.{nat_tests}
@@ -63,25 +63,25 @@ part_is p s a d c w = take_rest s _ ∙ ap₂ (λ x y. drop (x + 32 * y * p.l) s
 pub part_long : (p : DsaSet) (s part : List ℕ) → part ≡ hint_part p s → length s ≡ sig_length p → p.omega ≤ length part
 part_long p s part is h = omega (arith, ap length is, length-drop (p.lambda / 4 + 32 * z_bits p * p.l) s, h)
 
-between_part : (om a e : ℕ) (part : List ℕ) → a ≤ e → e ≤ om → take (e - a) (drop a (take om part)) ≡ between a e part
-between_part om a e part h l =
-    ap (take (e - a)) (ap (λ n. drop a (take n part)) {x = om} {y = a + (om - a)} (omega arith) ∙ drop-take a (om - a) part) ∙ take-take (e - a) (om - a) (drop a part) (omega arith)
+between_part : (n a e : ℕ) (part : List ℕ) → a ≤ e → e ≤ n → take (e - a) (drop a (take n part)) ≡ between a e part
+between_part n a e part h l =
+    ap (take (e - a)) (ap (λ k. drop a (take k part)) {x = n} {y = a + (n - a)} (omega arith) ∙ drop-take a (n - a) part) ∙ take-take (e - a) (n - a) (drop a part) (omega arith)
 
--- where `get` finds none before omega, the row is bad
-pub part_none : {R : Type 0} (now : R → List ℕ) (om a e : ℕ) (part : List ℕ) (r : Option R) → om ≤ length part → PartBy now (take om part) a e r → r ≡ None → row_rises om part a e ≡ false
-part_none now om a e part r long got none = elim (subst (PartBy now (take om part) a e) none got).0 [
+-- where `get` finds none of the first n bytes, which are at least omega, the row is bad
+pub part_none : {R : Type 0} (now : R → List ℕ) (om n a e : ℕ) (part : List ℕ) (r : Option R) → om ≤ length part → PartBy now (take n part) a e r → r ≡ None → om ≤ n → row_rises om part a e ≡ false
+part_none now om n a e part r long got none all = elim (subst (PartBy now (take n part) a e) none got).0 [
   | inl l ↦ and_left _ _ (and_left _ _ (lt-leb a e l))
-  | inr l ↦ and_left _ _ (and_right _ _ (lt-leb e om (omega (arith, l, length-take-le om part long))))
+  | inr l ↦ and_left _ _ (and_right _ _ (lt-leb e om (omega (arith, l, length-take n part))))
 ]
 
--- and where it finds one, the row is good if that part rises
-pub part_some : {R : Type 0} (now : R → List ℕ) (om a e : ℕ) (part : List ℕ) (r : Option R) (x : R) → PartBy now (take om part) a e r → r ≡ Some x →
+-- and where it finds one, and n is at most omega, the row is good if that part rises
+pub part_some : {R : Type 0} (now : R → List ℕ) (om n a e : ℕ) (part : List ℕ) (r : Option R) (x : R) → PartBy now (take n part) a e r → r ≡ Some x → n ≤ om →
     (row_rises om part a e ≡ rising (now x)) × (now x ≡ between a e part)
-part_some now om a e part r x got some =
-    let w = (subst (PartBy now (take om part) a e) some got).0 in
-    let few : e ≤ om = omega (arith, w.1, length-take om part) in
-    let is = w.2 ∙ between_part om a e part w.0 few in (
-      ap (λ b. b && rising (between a e part)) (and_from _ _ (le-leb a e w.0) (le-leb e om few)) ∙ (true_and _ ∙ ap rising (sym is)),
+part_some now om n a e part r x got some few =
+    let w = (subst (PartBy now (take n part) a e) some got).0 in
+    let last : e ≤ n = omega (arith, w.1, length-take n part) in
+    let is = w.2 ∙ between_part n a e part w.0 last in (
+      ap (λ b. b && rising (between a e part)) (and_from _ _ (le-leb a e w.0) (le-leb e om (omega arith))) ∙ (true_and _ ∙ ap rising (sym is)),
       is,
     )
 
