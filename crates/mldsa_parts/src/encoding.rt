@@ -6,9 +6,8 @@ ghost use Rattle.std.specs.Prelude.{◌≡◌, ◌*◌, ◌%◌, ◌<◌, T, len
 ghost use Rattle.standards.specs.Lists.{table, at, all_below};
 ghost use Rattle.standards.specs.MlDsaParts.{bit_pack, bit_unpack};
 
+use crate::Q;
 use packing::{Width, pack, unpack};
-
-const Q: u32 = 8380417;
 
 // 256 numbers of d bits, each b less what is packed, as 32 d bytes.
 pub fn bit_pack(d: Width<u32>, b: u32, f: &[u32; 256], out: &mut [u8])
@@ -36,7 +35,7 @@ pub fn bit_unpack(d: Width<u32>, b: u32, bs: &[u8], f: &mut [u32; 256])
     }
 }
 
-// t1 times 2^13. Numbers of 10 bits: the largest becomes q - 1.
+// t1 times 2^13. Numbers of 10 bits: the largest becomes q - 1. They are public; the loop has the one form that serves this file.
 pub fn scale_t1(f: &mut [u32; 256])
     requires { T (all_below 1024 f.old) }
     ensures value { f.new ≡ table 256 (λ n. (8192 * at f.old n) % 8380417) }

@@ -5,7 +5,7 @@ ghost use Rattle.standards.specs.Lists.{all_below};
 ghost use Rattle.standards.specs.Ring.{magnitude as magnitude_of, norm, norms as norms_of};
 ghost use Rattle.algebra.specs.RowArrays.{RowsBelow};
 
-const Q: u32 = 8380417;
+use crate::Q;
 
 // How far a number is from 0, without a branch.
 fn magnitude(x: u32) -> u32

@@ -9,9 +9,8 @@ ghost use Rattle.standards.specs.Ring.{zero_p, add_p, sub_p};
 ghost use Rattle.standards.specs.MlDsaParts.{power2_round1, power2_round0, high_bits, low_bits, make_hint, use_hint, power2_round1_p, power2_round0_p, high_bits_p, low_bits_p, make_hint_p, use_hint_p};
 ghost use Rattle.mldsa_parts.specs.Gammas.{IsGamma2};
 
+use crate::Q;
 use crate::gamma2::Gamma2;
-
-const Q: u32 = 8380417;
 
 // At most 1,023.
 fn power2_high(r: u32) -> u32
@@ -67,17 +66,30 @@ fn make_hint_number(gamma2: Gamma2, v: u32, ct: u32) -> u8
     (high_number(gamma2, (v + ct) % Q) != high_number(gamma2, v)) as u8
 }
 
-// The high bits go one up, or one down (m - 1 up), modulo their number m.
+// The high bits go one up, or one down (m - 1 up), modulo their number m, a constant in each of the two copies.
+fn use_hint_by<const G: u32>(b: u8, r: u32) -> u32
+    requires set { IsGamma2 G }
+    requires below { r < 8380417 }
+    ensures { result ≡ use_hint G b r }
+{
+    let m = (Q - 1) / (2 * G);
+    let low = low_number(Gamma2 { value: G }, r);
+    let up = (low > 0) as u32 * (2 * low <= Q) as u32;
+    let step = up + (1 - up) * (m - 1);
+    (high_by::<G>(r) + (b != 0) as u32 * step) % m
+}
+
+// The same choice of a constant as for the high bits.
 fn use_hint_number(gamma2: Gamma2, b: u8, r: u32) -> u32
     requires { r < 8380417 }
     ensures value { result ≡ use_hint gamma2.value b r }
     ensures below { result < 8380417 }
 {
-    let m = if gamma2.value == 95232 { 44 } else { 16 };
-    let low = low_number(gamma2, r);
-    let up = (low > 0) as u32 * (2 * low <= Q) as u32;
-    let step = up + (1 - up) * (m - 1);
-    (high_number(gamma2, r) + (b != 0) as u32 * step) % m
+    if gamma2.value == 95232 {
+        use_hint_by::<95232>(b, r)
+    } else {
+        use_hint_by::<261888>(b, r)
+    }
 }
 
 // Power2Round, number by number: the high parts take the place of t.
@@ -126,7 +138,7 @@ pub fn make_hint(gamma2: Gamma2, v: &[u32; 256], ct: &[u32; 256], h: &mut [u8; 2
     }
 }
 
-// UseHint, number by number.
+// UseHint, number by number. Verification alone calls it, so the numbers are public; the loop has the one form that serves this file.
 pub fn use_hint(gamma2: Gamma2, h: &[u8; 256], f: &mut [u32; 256])
     requires { T (all_below 8380417 f.old) }
     ensures value { f.new ≡ use_hint_p gamma2.value h.now f.old }
