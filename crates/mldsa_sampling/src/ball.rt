@@ -7,9 +7,8 @@ ghost use Rattle.sets.specs.Sets.{dsa_numbers};
 
 use super::read_ahead::ReadAhead;
 use hash::{Hash, Reader};
+use mldsa_parts::Q;
 use sets::types::DsaSet;
-
-const Q: u32 = 8380417;
 
 // The challenge of the bytes c.
 pub fn sample_in_ball<H: Hash>(p: DsaSet, c: &[u8], f: &mut [u32; 256])

@@ -1,4 +1,5 @@
 // RejBoundedPoly: small numbers, drawn by rejection out of half bytes.
+// eta is a value: the standard has two cases by it, in two functions. A constant in the type would leave both, and add a choice of the type.
 ghost use Rattle.std.specs.Prelude.{◌≡◌, ◌<◌, T, ◌⊎◌, ◌++◌, length, ◌==◌};
 ghost use Rattle.standards.specs.Lists.{table, at, all_below};
 ghost use Rattle.standards.specs.MlDsaParts.{half_byte_fits, coeff_from_half_byte, rej_bounded_poly};
@@ -8,8 +9,7 @@ use draws::candidates::Candidates;
 use draws::draw;
 use draws::row::Row;
 use hash::Hash;
-
-const Q: u32 = 8380417;
+use mldsa_parts::Q;
 
 // CoeffFromHalfByte of a half byte that is not rejected. What it gives of the others is left out.
 fn coeff_from_half_byte(eta: usize, z: u8) -> u32
@@ -102,6 +102,7 @@ pub fn rej_bounded_poly<H: Hash>(eta: usize, rho: &[u8], n: &[u8], f: &mut [u32;
 {
     let mut row: Row<u32, 528> = Row::new();
     let mut reader = H::shake256(rho, n);
-    draw(HalfBytes { eta }, &mut reader, &mut row);
-    put_drawn(row.as_slice(), f)
+    let full = draw(HalfBytes { eta }, &mut reader, &mut row).is_some();
+    put_drawn(row.as_slice(), f);
+    full
 }

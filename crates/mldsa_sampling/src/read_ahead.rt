@@ -59,6 +59,7 @@ impl<R: Reader> ReadAhead<R> {
         ensures byte { result ≡ to_come R.rest self.old (first_at_most 1024 0 i (to_come R.rest self.old)) }
         ensures onward { to_come R.rest self.new ≡ later (first_at_most 1024 0 i (to_come R.rest self.old) + 1) (to_come R.rest self.old) }
     {
+        // The count bounds the loop. It has a name for the proof, which tells by it how many bytes were looked at.
         for _seen in 0..TRIES {
             let b = self.next_byte();
             if b as usize <= i {

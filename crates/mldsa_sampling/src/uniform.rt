@@ -8,8 +8,7 @@ use draws::candidates::Candidates;
 use draws::draw;
 use draws::row::Row;
 use hash::Hash;
-
-const Q: u32 = 8380417;
+use mldsa_parts::Q;
 
 // Numbers of 23 bits, one in a group of three bytes, of which those below q are kept. A block of SHAKE128 has 56 groups.
 #[derive(Clone, Copy)]
@@ -75,6 +74,7 @@ pub fn rej_ntt_poly<H: Hash>(rho: &[u8], entry: &[u8], f: &mut [u32; 256]) -> bo
 {
     let mut row: Row<u32, 312> = Row::new();
     let mut reader = H::shake128(rho, entry);
-    draw(BelowQ, &mut reader, &mut row);
-    put_drawn(row.as_slice(), f)
+    let full = draw(BelowQ, &mut reader, &mut row).is_some();
+    put_drawn(row.as_slice(), f);
+    full
 }
