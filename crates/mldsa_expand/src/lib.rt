@@ -40,9 +40,7 @@ pub fn expand_s<H: Hash>(eta: usize, rho: &[u8], first: usize, s: &mut [[u32; 25
 {
     let mut full = true;
     for i in 0..s.len() {
-        let mut f = [0u32; 256];
-        full &= rej_bounded_poly::<H>(eta, rho, &[(first + i) as u8, 0], &mut f);
-        s[i] = f;
+        full &= rej_bounded_poly::<H>(eta, rho, &[(first + i) as u8, 0], &mut s[i]);
     }
     full
 }
@@ -54,8 +52,6 @@ pub fn expand_masks<H: Hash>(p: DsaSet, rho: &[u8], kappa: u16, y: &mut [[u32; 2
     ensures below { RowsBelow 8380417 (length y.old) y.new }
 {
     for i in 0..y.len() {
-        let mut f = [0u32; 256];
-        expand_mask::<H>(p, rho, kappa + i as u16, &mut f);
-        y[i] = f;
+        expand_mask::<H>(p, rho, kappa + i as u16, &mut y[i]);
     }
 }
