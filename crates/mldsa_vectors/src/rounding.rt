@@ -57,7 +57,7 @@ pub fn make_hint_rows(gamma2: Gamma2, v: &[[u32; 256]], ct: &[[u32; 256]], hs: &
     }
 }
 
-// UseHint of each row.
+// UseHint of each row. Verification alone calls it, so the rows are public; the loop has the one form that serves this file.
 pub fn use_hint_rows(gamma2: Gamma2, hs: &[[u8; 256]], v: &mut [[u32; 256]])
     requires long { length hs.now ≡ length v.old }
     requires below { RowsBelow 8380417 (length v.old) v.old }
