@@ -9,9 +9,9 @@ ghost use Rattle.lines.specs.Answers.{AnswersLines};
 ghost use Rattle.digest.specs.Answers.{Answers};
 
 use answers::answer;
-use lines::answer_lines;
+use lines::{answer_lines, serve};
 use std::alloc::Global;
-use std::io::{self, BufRead, BufReader, LineWriter, Write};
+use std::io::{self, BufRead, Write};
 
 mod answers;
 mod functions;
@@ -24,8 +24,5 @@ fn run<R: BufRead + Drop, W: Write>(heap: Global, input: R, out: &mut W) -> io::
 }
 
 fn main(rt: HostRuntime) -> io::Result<()> {
-    let heap = rt.alloc();
-    let input = BufReader::new(heap, rt.stdin())?;
-    let mut out = LineWriter::new(heap, io::writer(&rt))?;
-    run(heap, input, &mut out)
+    serve(&rt, run)
 }

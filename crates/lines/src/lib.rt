@@ -1,14 +1,14 @@
 // A text is answered a line at a time.
 #![tactic(auto)]
 
-ghost use Rattle.std.specs.Prelude.{◌≡◌, ◌≢◌, [], ◌∷◌, length, IsSome, OnOk, MatchOption};
+ghost use Rattle.std.specs.Prelude.{◌≡◌, ◌≢◌, [], ◌∷◌, length, Ok, IsSome, OnOk, MatchOption};
 ghost use Rattle.std.specs.Fn.{FnReturnsAt};
 ghost use Rattle.lines.specs.Answers.{Shows, AnswersLines};
 ghost use Rattle.lines.specs.Words.{words_of};
 
 use std::alloc::Global;
 use std::fmt;
-use std::io::{self, BufRead, Write};
+use std::io::{self, BufRead, BufReader, LineWriter, Printer, Write};
 
 // Answers each line of the input by a line: what `answer` gives, or behind `cannot: ` what is wrong. The clause says what is written
 // where the input's bytes are known and the problems say what they print.
@@ -29,6 +29,21 @@ where
         }
     }
     Ok(())
+}
+
+// Runs a program on its standard input, through a buffer, and its standard output, a line at a time. No clause knows the bytes of
+// either, so what is written is what `run` promises of the reader and the writer it is lent.
+pub fn serve<'a, R, F>(rt: &'a R, run: F) -> io::Result<()>
+where
+    R: Input + Print + AllocGlobal,
+    F: FnOnce(Global, BufReader<R::Reader>, &mut LineWriter<Printer<'a, R>>) -> io::Result<()>,
+    requires { F.IsAlwaysCallable run }
+    ensures { OnOk result ((heap : _) × (input : _) × (out : _) × (new : _) × F.post run heap input out (Ok tt) new) }
+{
+    let heap = rt.alloc();
+    let input = BufReader::new(heap, rt.reader())?;
+    let mut out = LineWriter::new(heap, io::writer(rt))?;
+    run(heap, input, &mut out)
 }
 
 // The words of a line that has three.
