@@ -1,6 +1,5 @@
-mod Fails
 mod Gathered
 mod Left
+mod Memory
 mod Parsed
 mod Printed
-mod Written

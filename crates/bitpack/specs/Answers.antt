@@ -1,36 +1,26 @@
 -- What the program answers to a line, and what it prints. Characters are their codes. Assumes nothing.
-use Rattle.std.specs.Prelude.{◌≡◌, ℕ, ◌*◌, ◌^◌, Bool, cond, ◌&&◌, ◌⊎◌, List, [], ◌∷◌, ◌++◌, length, Result, Ok, Err, codes, decimal, bytes_eq, ◌==◌, nat_lt}
-use Rattle.std.specs.Str.{all_ascii_digits}
-use Rattle.std.specs.Str.Parse.{digits_value, without_leading_plus}
+use Rattle.std.specs.Prelude.{ℕ, ◌*◌, ◌^◌, Bool, cond, List, [], ◌∷◌, ◌++◌, length, Result, Ok, Err, codes, decimal, bytes_eq, ◌==◌, nat_lt}
 use Rattle.standards.specs.Bytes.{pack, unpack}
 use Rattle.packing.specs.Widths.{kem_width, dsa_width}
 use Rattle.hex_digits.specs.Hex.{hex_of, is_hex, bytes_of}
+use Rattle.lines.specs.Answers.{StatedOr}
+use Rattle.lines.specs.Problems.{◌>>=◌, number_in}
 use Rattle.lines.specs.Words.{words_of}
-use Rattle.bitpack.specs.Problems.{text_of, ◌>>=◌}
+use Rattle.bitpack.specs.Problems.{text_of}
 use Rattle.bitpack.specs.declared.problem.Problem.{Problem}
 use Rattle.bitpack.specs.declared.problem.Problem.TheVariants.{Usage, KemWidth, DsaWidth, NoNumber, TooLarge, Numbers, NotHex, Bytes, NoMemory}
 
 -- ---- words as numbers
--- one decimal digit or more
-abbrev pub is_number : List ℕ → Bool
-is_number digits = nat_lt 0 (length digits) && all_ascii_digits digits
-
--- a number of so many bits: decimal digits, behind a plus or not
-abbrev pub number_in : ℕ → List ℕ → Result ℕ Problem
-number_in bits word =
-    let digits = without_leading_plus word in
-    cond (is_number digits && nat_lt (digits_value 10 digits) (2 ^ bits)) (Ok (digits_value 10 digits)) (Err NoNumber)
-
 -- a width, and what another is answered
 abbrev pub width_of : (ℕ → Bool) → Problem → List ℕ → Result ℕ Problem
 width_of is_width other word = do
-  d ← number_in 64 word
+  d ← number_in NoNumber 64 word
   cond (is_width d) (Ok d) (Err other)
 
 -- a number that fits d bits
 abbrev pub number_of : ℕ → List ℕ → Result ℕ Problem
 number_of d word = do
-  x ← number_in 32 word
+  x ← number_in NoNumber 32 word
   cond (nat_lt x (2 ^ d)) (Ok x) (Err TooLarge)
 
 -- all words as numbers of d bits, or what is wrong with the first that is none
@@ -93,10 +83,6 @@ words_answer (scheme ∷ words) =
 abbrev pub answer_of : List ℕ → Result (List ℕ) Problem
 answer_of line = words_answer (words_of line)
 
--- ---- what is written for a line: the answer, or what is wrong with the line
-abbrev pub line_of : Result (List ℕ) Problem → List ℕ
-line_of (Ok text) = text ++ codes "\n"
-line_of (Err problem) = codes "cannot: " ++ (text_of problem ++ codes "\n")
-
+-- what is written for a line: the answer, what is wrong with the line, or that there is no memory
 abbrev pub Answers : List ℕ → List ℕ → Type 0
-Answers line shown = (shown ≡ line_of (answer_of line)) ⊎ (shown ≡ line_of (Err NoMemory))
+Answers = StatedOr text_of NoMemory answer_of

@@ -1,5 +1,5 @@
 -- What is wrong with a line, and what is printed of it. Characters are their codes. Assumes nothing.
-use Rattle.std.specs.Prelude.{◌≡◌, ℕ, List, ◌++◌, Result, Ok, Err, codes, decimal}
+use Rattle.std.specs.Prelude.{ℕ, Bool, true, false, List, ◌++◌, codes, decimal}
 use Rattle.bitpack.specs.declared.problem.Problem.{Problem}
 use Rattle.bitpack.specs.declared.problem.Problem.TheVariants.{Usage, KemWidth, DsaWidth, NoNumber, TooLarge, Numbers, NotHex, Bytes, NoMemory}
 
@@ -14,24 +14,13 @@ text_of NotHex = codes "the bytes are not hexadecimal digits, an even number of 
 text_of (Bytes n want) = decimal n ++ (codes " bytes, where " ++ (decimal want ++ codes " are wanted"))
 text_of NoMemory = codes "no memory"
 
--- ---- a value, or the first thing that is wrong
-infixl 10 ◌>>=◌
-abbrev pub ◌>>=◌ : {A B : Type 0} → Result A Problem → (A → Result B Problem) → Result B Problem
-(Ok x) >>= f = f x
-(Err e) >>= f = Err e
-
--- ---- what a function of the code gives: what is stated, or that there is no memory
-abbrev pub Fails : {Y : Type 0} → Problem → Result Y Problem → Type 0
-Fails NoMemory stated = Unit {0}
-Fails Usage stated = stated ≡ Err Usage
-Fails KemWidth stated = stated ≡ Err KemWidth
-Fails DsaWidth stated = stated ≡ Err DsaWidth
-Fails NoNumber stated = stated ≡ Err NoNumber
-Fails TooLarge stated = stated ≡ Err TooLarge
-Fails (Numbers n) stated = stated ≡ Err (Numbers n)
-Fails NotHex stated = stated ≡ Err NotHex
-Fails (Bytes n want) stated = stated ≡ Err (Bytes n want)
-
-abbrev pub Gives : {X Y : Type 0} → (X → Y) → Result X Problem → Result Y Problem → Type 0
-Gives view (Ok x) stated = stated ≡ Ok (view x)
-Gives view (Err e) stated = Fails e stated
+abbrev pub no_memory : Problem → Bool
+no_memory NoMemory = true
+no_memory Usage = false
+no_memory KemWidth = false
+no_memory DsaWidth = false
+no_memory NoNumber = false
+no_memory TooLarge = false
+no_memory (Numbers n) = false
+no_memory NotHex = false
+no_memory (Bytes n want) = false

@@ -2,8 +2,9 @@
 ghost use Rattle.std.specs.Prelude.{◌≡◌, ◌*◌, length, IfOk, string_bytes};
 ghost use Rattle.standards.specs.Bytes.{pack, unpack};
 ghost use Rattle.hex_digits.specs.Hex.{hex_of};
+ghost use Rattle.lines.specs.Problems.{Gives};
 ghost use Rattle.bitpack.specs.Line.{left};
-ghost use Rattle.bitpack.specs.Problems.{Gives};
+ghost use Rattle.bitpack.specs.Problems.{no_memory};
 ghost use Rattle.bitpack.specs.Answers.{numbers_shown, pack_answer, unpack_answer, command_answer, answer_of};
 
 use crate::line::LineWords;
@@ -53,7 +54,7 @@ fn unpacked<W: Packed>(w: Width<W>, bs: &[u8]) -> [W; 256]
 
 // The answer to the numbers behind a width.
 fn pack_line<W: Scheme>(heap: Global, w: Width<W>, words: LineWords<'_>) -> Result<String, Problem>
-    ensures { Gives string_bytes result (pack_answer w.bits (left words.entry)) }
+    ensures { Gives no_memory string_bytes result (pack_answer w.bits (left words.entry)) }
 {
     let f = numbers(words, w)?;
     Ok(packed(heap, w, &f)?)
@@ -65,7 +66,7 @@ fn unpack_line<W: Scheme>(
     w: Width<W>,
     words: LineWords<'_>,
 ) -> Result<String, Problem>
-    ensures { Gives string_bytes result (unpack_answer w.bits (left words.entry)) }
+    ensures { Gives no_memory string_bytes result (unpack_answer w.bits (left words.entry)) }
 {
     let bs = bytes(heap, words, 32 * w.bits)?;
     Ok(shown(heap, &unpacked(w, &bs))?)
@@ -74,7 +75,7 @@ fn unpack_line<W: Scheme>(
 // The answer to `pack` or `unpack`, a width and what is behind it.
 #[tactic(auto, unfolding(crate::specs::Answers::command_answer))]
 fn command<W: Scheme>(heap: Global, mut words: LineWords<'_>) -> Result<String, Problem>
-    ensures { Gives string_bytes result (command_answer W.width W.OTHER_WIDTH (left words.entry)) }
+    ensures { Gives no_memory string_bytes result (command_answer W.width W.OTHER_WIDTH (left words.entry)) }
 {
     match (words.next(), words.next()) {
         (Some("pack"), Some(word)) => pack_line::<W>(heap, width(word)?, words),
@@ -86,7 +87,7 @@ fn command<W: Scheme>(heap: Global, mut words: LineWords<'_>) -> Result<String, 
 // The answer to a line.
 #[tactic(auto, unfolding(crate::specs::Answers::words_answer))]
 pub fn answer(heap: Global, line: &str) -> Result<String, Problem>
-    ensures { Gives string_bytes result (answer_of line.now) }
+    ensures { Gives no_memory string_bytes result (answer_of line.now) }
 {
     let mut words = LineWords::new(line);
     match words.next() {

@@ -2,8 +2,9 @@
 ghost use Rattle.std.specs.Prelude.{◌≡◌, ℕ, ◌*◌, ◌<◌, ◌^◌, List, T, eqb};
 ghost use Rattle.std.specs.List.{list_any};
 ghost use Rattle.std.specs.Mem.{type_size};
+ghost use Rattle.lines.specs.Problems.{Gives};
 ghost use Rattle.bitpack.specs.declared.problem.Problem.{Problem};
-ghost use Rattle.bitpack.specs.Problems.{Gives};
+ghost use Rattle.bitpack.specs.Problems.{no_memory};
 ghost use Rattle.bitpack.specs.Answers.{width_of};
 
 use crate::problem::Problem;
@@ -68,7 +69,7 @@ impl Scheme for u32 {
 // The width that a word writes.
 #[tactic(auto, using(crate::proofs::Parsed::width_steps))]
 pub fn width<W: Scheme>(word: &str) -> Result<Width<W>, Problem>
-    ensures { Gives (λ w. w.bits) result (width_of W.width W.OTHER_WIDTH word.now) }
+    ensures { Gives no_memory (λ w. w.bits) result (width_of W.width W.OTHER_WIDTH word.now) }
 {
     let bits = word.parse::<usize>()?;
     if W::WIDTHS.contains(&bits) {

@@ -1,2 +1,2 @@
+mod Memory
 mod Read
-mod Shown

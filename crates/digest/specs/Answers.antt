@@ -1,8 +1,8 @@
 -- What the program answers to a line, and what it prints. Characters are their codes. Assumes nothing.
-use Rattle.std.specs.Prelude.{◌≡◌, ℕ, ◌^◌, Bool, cond, ◌&&◌, ◌⊎◌, List, [], ◌∷◌, ◌++◌, length, Result, Ok, Err, codes, bytes_eq, nat_lt}
-use Rattle.std.specs.Str.{all_ascii_digits}
-use Rattle.std.specs.Str.Parse.{digits_value, without_leading_plus}
+use Rattle.std.specs.Prelude.{ℕ, Bool, true, false, cond, List, [], ◌∷◌, Result, Ok, Err, codes, bytes_eq}
 use Rattle.hex_digits.specs.Hex.{hex_of, is_hex, bytes_of}
+use Rattle.lines.specs.Answers.{StatedOr}
+use Rattle.lines.specs.Problems.{◌>>=◌, number_in}
 use Rattle.lines.specs.Words.{words_of}
 use Rattle.digest.specs.Functions.{gives, hash_of}
 use Rattle.digest.specs.declared.functions.Function.{Function}
@@ -19,11 +19,13 @@ text_of NoNumber = codes "the number of bytes is not a number"
 text_of Length = codes "the function does not give that many bytes"
 text_of NoMemory = codes "no memory"
 
--- ---- a value, or the first thing that is wrong
-infixl 10 ◌>>=◌
-abbrev pub ◌>>=◌ : {A B : Type 0} → Result A Problem → (A → Result B Problem) → Result B Problem
-(Ok x) >>= f = f x
-(Err e) >>= f = Err e
+abbrev pub no_memory : Problem → Bool
+no_memory NoMemory = true
+no_memory Usage = false
+no_memory NoFunction = false
+no_memory NotHex = false
+no_memory NoNumber = false
+no_memory Length = false
 
 -- the function of that name
 abbrev pub function_of : List ℕ → Result Function Problem
@@ -34,16 +36,6 @@ function_of word =
 -- the message in digits; `-` is the empty one
 abbrev pub message_of : List ℕ → Result (List ℕ) Problem
 message_of word = cond (bytes_eq word (codes "-")) (Ok []) (cond (is_hex word) (Ok (bytes_of word)) (Err NotHex))
-
--- one decimal digit or more
-abbrev pub is_number : List ℕ → Bool
-is_number digits = nat_lt 0 (length digits) && all_ascii_digits digits
-
--- the number of bytes: decimal digits, behind a plus or not, of a number of 64 bits
-abbrev pub count_of : List ℕ → Result ℕ Problem
-count_of word =
-    let digits = without_leading_plus word in
-    cond (is_number digits && nat_lt (digits_value 10 digits) (2 ^ 64)) (Ok (digits_value 10 digits)) (Err NoNumber)
 
 -- that many bytes of the message's hash
 abbrev pub bytes_hashed : Function → List ℕ → ℕ → Result (List ℕ) Problem
@@ -59,7 +51,7 @@ unfoldable pub reply_of : List ℕ → List ℕ → List ℕ → Result (List �
 reply_of function digits count = do
   f ← function_of function
   m ← message_of digits
-  n ← count_of count
+  n ← number_in NoNumber 64 count
   bytes ← bytes_hashed f m n
   Ok (shown_of bytes)
 
@@ -72,23 +64,6 @@ reply_to _ = Err Usage
 abbrev pub answer_of : List ℕ → Result (List ℕ) Problem
 answer_of line = reply_to (words_of line)
 
--- ---- what a function of the code gives: what is stated, or that there is no memory
-abbrev pub Fails : {Y : Type 0} → Problem → Result Y Problem → Type 0
-Fails NoMemory stated = Unit {0}
-Fails Usage stated = stated ≡ Err Usage
-Fails NoFunction stated = stated ≡ Err NoFunction
-Fails NotHex stated = stated ≡ Err NotHex
-Fails NoNumber stated = stated ≡ Err NoNumber
-Fails Length stated = stated ≡ Err Length
-
-abbrev pub Gives : {X Y : Type 0} → (X → Y) → Result X Problem → Result Y Problem → Type 0
-Gives view (Ok x) stated = stated ≡ Ok (view x)
-Gives view (Err e) stated = Fails e stated
-
--- ---- what is written for a line: the answer, or what is wrong with the line
-abbrev pub line_of : Result (List ℕ) Problem → List ℕ
-line_of (Ok text) = text ++ codes "\n"
-line_of (Err problem) = codes "cannot: " ++ (text_of problem ++ codes "\n")
-
+-- what is written for a line: the answer, what is wrong with the line, or that there is no memory
 abbrev pub Answers : List ℕ → List ℕ → Type 0
-Answers line shown = (shown ≡ line_of (answer_of line)) ⊎ (shown ≡ line_of (Err NoMemory))
+Answers = StatedOr text_of NoMemory answer_of

@@ -1,6 +1,7 @@
 // What a line is answered.
 ghost use Rattle.std.specs.Prelude.{◌≡◌, IfOk, string_bytes};
-ghost use Rattle.digest.specs.Answers.{Gives, message_of, shown_of, reply_of, answer_of};
+ghost use Rattle.lines.specs.Problems.{Gives};
+ghost use Rattle.digest.specs.Answers.{no_memory, message_of, shown_of, reply_of, answer_of};
 
 use crate::functions::{Function, NoSuchFunction, hashed};
 use hex_digits::{hex_text, read_hex};
@@ -70,7 +71,7 @@ impl From<AllocError> for Problem {
 
 // The message that a word writes.
 fn message(heap: Global, word: &str) -> Result<Vec<u8>, Problem>
-    ensures { Gives (λ v. v.items) result (message_of word.now) }
+    ensures { Gives no_memory (λ v. v.items) result (message_of word.now) }
 {
     if word == "-" {
         return Ok(Vec::new(heap));
@@ -92,7 +93,7 @@ fn shown(heap: Global, bytes: &[u8]) -> Result<String, AllocError>
 // The answer to three words.
 #[tactic(auto, using(crate::proofs::Read::read_steps), unfolding(crate::specs::Answers::reply_of))]
 fn reply(heap: Global, function: &str, digits: &str, count: &str) -> Result<String, Problem>
-    ensures { Gives string_bytes result (reply_of function.now digits.now count.now) }
+    ensures { Gives no_memory string_bytes result (reply_of function.now digits.now count.now) }
 {
     let f = function.parse::<Function>()?;
     let m = message(heap, digits)?;
@@ -103,7 +104,7 @@ fn reply(heap: Global, function: &str, digits: &str, count: &str) -> Result<Stri
 
 // The answer to a line.
 pub fn answer(heap: Global, line: &str) -> Result<String, Problem>
-    ensures { Gives string_bytes result (answer_of line.now) }
+    ensures { Gives no_memory string_bytes result (answer_of line.now) }
 {
     let (function, digits, count) = three_words(line).ok_or(Problem::Usage)?;
     reply(heap, function, digits, count)

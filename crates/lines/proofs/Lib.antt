@@ -1,4 +1,6 @@
 mod FirstLine
 mod Loop
+pub mod Numbers
+pub mod Problems
 pub mod Split
 pub mod Weaker

@@ -1,5 +1,5 @@
 -- What is written for the lines of a text. Characters are their codes. Assumes nothing.
-use Rattle.std.specs.Prelude.{◌≡◌, ℕ, List, [], ◌∷◌, ◌++◌, Option, Result, Ok, Err, String, codes, string_bytes, IfSome}
+use Rattle.std.specs.Prelude.{◌≡◌, ℕ, ◌⊎◌, List, [], ◌∷◌, ◌++◌, Option, Result, Ok, Err, String, codes, string_bytes, IfSome}
 use Rattle.std.specs.Io.KnownBytes.{Appends}
 use Rattle.std.specs.Str.Lines.{lines}
 
@@ -16,3 +16,12 @@ Answered Answers (line ∷ lines) written = (shown more : List ℕ) × Answers l
 -- where the bytes of an input are known, those that are known of a writer, first `old`, grow by answers to its lines
 abbrev pub AnswersLines : (List ℕ → List ℕ → Type 0) → Option (List ℕ) → Option (List ℕ) → Option (List ℕ) → Type 0
 AnswersLines Answers input old new = IfSome input (λ text. (written : List ℕ) × Appends old new written × Answered Answers (lines text) written)
+
+-- what is written for a line: the answer, or what is wrong with the line; `text_of` is what is printed of a problem
+abbrev pub line_of : {E : Type 0} → (E → List ℕ) → Result (List ℕ) E → List ℕ
+line_of text_of (Ok text) = text ++ codes "\n"
+line_of text_of (Err problem) = codes "cannot: " ++ (text_of problem ++ codes "\n")
+
+-- what is stated for the line, or that there is no memory, which the problem `memory` says
+abbrev pub StatedOr : {E : Type 0} → (E → List ℕ) → E → (List ℕ → Result (List ℕ) E) → List ℕ → List ℕ → Type 0
+StatedOr text_of memory answer_of line shown = (shown ≡ line_of text_of (answer_of line)) ⊎ (shown ≡ line_of text_of (Err memory))
