@@ -36,10 +36,9 @@ fn shown<W: Word>(heap: Global, f: &[W]) -> Result<String, AllocError>
 fn packed<W: Packed>(heap: Global, w: Width<W>, f: &[W; 256]) -> Result<String, AllocError>
     ensures { IfOk result (λ text. string_bytes text ≡ hex_of (pack w.bits (W.numbers f.now))) }
 {
-    let mut room = [0u8; 640];
-    let out = &mut room[..32 * w.bits];
-    pack(w, f, out);
-    hex_text(heap, out)
+    let mut out = vec![in heap; 0u8; 32 * w.bits]?;
+    pack(w, f, &mut out);
+    hex_text(heap, &out)
 }
 
 // The numbers in as many bytes.
@@ -72,7 +71,7 @@ fn unpack_line<W: Scheme>(
     Ok(shown(heap, &unpacked(w, &bs))?)
 }
 
-// The answer to `pack` or `unpack`, a width and what is behind it.
+// The answer to `pack` or `unpack`, a width and what is behind it. The words are the program's commands: each arm is another call.
 #[tactic(auto, unfolding(crate::specs::Answers::command_answer))]
 fn command<W: Scheme>(heap: Global, mut words: LineWords<'_>) -> Result<String, Problem>
     ensures { Gives no_memory string_bytes result (command_answer W.width W.OTHER_WIDTH (left words.entry)) }
@@ -84,7 +83,7 @@ fn command<W: Scheme>(heap: Global, mut words: LineWords<'_>) -> Result<String, 
     }
 }
 
-// The answer to a line.
+// The answer to a line. The schemes' names are commands too: each arm is a call at another type.
 #[tactic(auto, unfolding(crate::specs::Answers::words_answer))]
 pub fn answer(heap: Global, line: &str) -> Result<String, Problem>
     ensures { Gives no_memory string_bytes result (answer_of line.now) }
