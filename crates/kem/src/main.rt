@@ -33,7 +33,7 @@ fn text(rt: &HostRuntime, path: &str) -> io::Result<Option<Vec<u8>>> {
     }
 }
 
-// What a call answers, or how to call.
+// What a call answers, or how to call. The words are the program's commands: each arm is another call.
 fn answer(
     heap: Global,
     call: &str,
