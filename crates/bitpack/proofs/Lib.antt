@@ -1,5 +1,4 @@
 mod Gathered
-mod Left
 mod Memory
 mod Parsed
 mod Printed

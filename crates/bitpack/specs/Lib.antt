@@ -1,4 +1,3 @@
 pub mod Problems
 pub mod Widths
-pub mod Line
 pub mod Answers

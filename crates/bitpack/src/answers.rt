@@ -2,16 +2,16 @@
 ghost use Rattle.std.specs.Prelude.{◌≡◌, ◌*◌, length, IfOk, string_bytes};
 ghost use Rattle.standards.specs.Bytes.{pack, unpack};
 ghost use Rattle.hex_digits.specs.Hex.{hex_of};
+ghost use Rattle.lines.specs.Left.{left};
 ghost use Rattle.lines.specs.Problems.{Gives};
-ghost use Rattle.bitpack.specs.Line.{left};
 ghost use Rattle.bitpack.specs.Problems.{no_memory};
 ghost use Rattle.bitpack.specs.Answers.{numbers_shown, pack_answer, unpack_answer, command_answer, answer_of};
 
-use crate::line::LineWords;
 use crate::problem::Problem;
 use crate::read::{bytes, numbers};
 use crate::width::{Scheme, width};
 use hex_digits::hex_text;
+use lines::words::LineWords;
 use packing::{Packed, Width, pack, unpack};
 use std::alloc::{AllocError, Global};
 use std::fmt::Write;

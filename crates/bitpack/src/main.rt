@@ -14,7 +14,6 @@ use std::alloc::Global;
 use std::io::{self, BufRead, Write};
 
 mod answers;
-mod line;
 mod problem;
 mod read;
 mod width;

@@ -1,13 +1,13 @@
 // What the words of a line write.
 ghost use Rattle.std.specs.Prelude.{◌≡◌, ◌^◌, ◌<◌, ◌≤◌, slice_set};
+ghost use Rattle.lines.specs.Left.{left};
 ghost use Rattle.lines.specs.Problems.{Gives};
-ghost use Rattle.bitpack.specs.Line.{left};
 ghost use Rattle.bitpack.specs.Problems.{no_memory};
 ghost use Rattle.bitpack.specs.Answers.{number_of, numbers_of, bytes_in};
 
-use crate::line::LineWords;
 use crate::problem::Problem;
 use hex_digits::read_hex;
+use lines::words::LineWords;
 use packing::{Packed, Width};
 use std::alloc::Global;
 use words::Word;
@@ -37,7 +37,8 @@ fn put<W: Word>(f: &mut [W; 256], n: usize, x: u32)
     }
 }
 
-// Reads 256 numbers of d bits each.
+// Reads 256 numbers of d bits each. The count is kept by hand since it is wanted after the loop, where `enumerate` has none; the numbers
+// past the 256th are counted and not kept, so that a long line takes no more memory, as a `Vec` would.
 #[tactic(auto, using(crate::proofs::Gathered::gathered_steps))]
 fn read_numbers<W: Packed>(
     words: LineWords<'_>,

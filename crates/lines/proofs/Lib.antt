@@ -1,4 +1,5 @@
 mod FirstLine
+mod Left
 mod Loop
 pub mod Numbers
 pub mod Problems

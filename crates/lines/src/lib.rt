@@ -10,6 +10,8 @@ use std::alloc::Global;
 use std::fmt;
 use std::io::{self, BufRead, BufReader, LineWriter, Printer, Write};
 
+pub mod words;
+
 // Answers each line of the input by a line: what `answer` gives, or behind `cannot: ` what is wrong. The clause says what is written
 // where the input's bytes are known and the problems say what they print.
 pub fn answer_lines<R, W, E, F>(heap: Global, input: R, out: &mut W, answer: F) -> io::Result<()>

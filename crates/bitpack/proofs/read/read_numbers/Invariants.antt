@@ -1,5 +1,5 @@
 use Rattle.std.proofs.Common.{◌≡◌, length}
-use Rattle.bitpack.specs.Line.{left}
+use Rattle.lines.specs.Left.{left}
 use Rattle.bitpack.proofs.Gathered.{Gathered}
 use Rattle.bitpack.proofs.read.read_numbers.Given as goal
 

@@ -16,7 +16,7 @@ pub struct LineWords<'a> {
 impl<'a> LineWords<'a> {
     ghost use Rattle.std.specs.Prelude.{◌≡◌};
     ghost use Rattle.lines.specs.Words.{words_of};
-    ghost use Rattle.bitpack.specs.Line.{left};
+    ghost use Rattle.lines.specs.Left.{left};
 
     #[tactic(auto, using(crate::proofs::Left::left_first))]
     pub fn new(line: &'a str) -> Self
@@ -30,7 +30,7 @@ impl<'a> LineWords<'a> {
 
 impl<'a> Iterator for LineWords<'a> {
     ghost use Rattle.std.specs.Iterator.{YieldsFirstRef, item_count};
-    ghost use Rattle.bitpack.specs.Line.{left};
+    ghost use Rattle.lines.specs.Left.{left};
 
     type Item = &'a str;
 
