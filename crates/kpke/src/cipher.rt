@@ -22,7 +22,8 @@ use rows::pack_rows;
 use rows::products::dot;
 use sets::types::KemSet;
 
-// The rows of u: column i of the matrix times y, and noise, compressed.
+// The rows of u: column i of the matrix times y, and noise, compressed. A row is made in a room of its own and put in its place once: worked on in
+// its place by four calls, it would take as many steps in the loop's proof.
 fn u_rows<H: Hash>(p: KemSet, r: &[u8], a: &[[u16; 256]], y: &[[u16; 256]], u: &mut [[u16; 256]])
     requires matrix { p.k * p.k ≤ length a.now }
     requires rows { (length y.now ≡ p.k) × (length u.old ≡ p.k) }

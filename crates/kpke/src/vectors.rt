@@ -34,10 +34,8 @@ pub fn small_rows<H: Hash>(eta: Eta, s: &[u8], v: &mut [[u16; 256]])
     ensures below { RowsBelow 3329 (length v.old) v.new }
 {
     for i in 0..v.len() {
-        let mut f = [0u16; 256];
-        small_poly::<H>(eta, s, i as u8, &mut f);
-        ntt(&mut f);
-        v[i] = f;
+        small_poly::<H>(eta, s, i as u8, &mut v[i]);
+        ntt(&mut v[i]);
     }
 }
 
@@ -48,9 +46,7 @@ pub fn decode_rows(key: &[u8], v: &mut [[u16; 256]])
     ensures below { RowsBelow 3329 (length v.old) v.new }
 {
     for i in 0..v.len() {
-        let mut f = [0u16; 256];
-        byte_decode_12(&key[384 * i..384 * i + 384], &mut f);
-        v[i] = f;
+        byte_decode_12(&key[384 * i..384 * i + 384], &mut v[i]);
     }
 }
 

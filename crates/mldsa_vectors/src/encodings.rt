@@ -19,9 +19,7 @@ pub fn bit_unpack_rows(d: Width<u32>, b: u32, bs: &[u8], start: usize, v: &mut [
 {
     let w = 32 * d.bits;
     for i in 0..v.len() {
-        let mut f = [0u32; 256];
-        bit_unpack(d, b, &bs[start + w * i..start + w * i + w], &mut f);
-        v[i] = f;
+        bit_unpack(d, b, &bs[start + w * i..start + w * i + w], &mut v[i]);
     }
 }
 

@@ -33,10 +33,8 @@ pub fn matrix_product(a: &[[u32; 256]], s: &[[u32; 256]], w: &mut [[u32; 256]])
     ensures below { RowsBelow 8380417 (length w.old) w.new }
 {
     for i in 0..w.len() {
-        let mut f = [0u32; 256];
-        dot(a, s.len() * i, 1, s, &mut f);
-        ntt_inverse(&mut f);
-        w[i] = f;
+        dot(a, s.len() * i, 1, s, &mut w[i]);
+        ntt_inverse(&mut w[i]);
     }
 }
 

@@ -31,7 +31,7 @@ fn key_seeds<H: Hash>(p: KemSet, d: &[u8; 32], rho: &mut [u8; 32], sigma: &mut [
     sigma.copy_from_slice(&g[32..64]);
 }
 
-// The rows of t = A s + e, all transformed.
+// The rows of t = A s + e, all transformed. A row is made in a room of its own and put in its place once, as those of u are.
 fn t_rows<H: Hash>(
     p: KemSet,
     sigma: &[u8],
