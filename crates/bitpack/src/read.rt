@@ -37,8 +37,8 @@ fn put<W: Word>(f: &mut [W; 256], n: usize, x: u32)
     }
 }
 
-// Reads 256 numbers of d bits each. The count is kept by hand since it is wanted after the loop, where `enumerate` has none; the numbers
-// past the 256th are counted and not kept, so that a long line takes no more memory, as a `Vec` would.
+// Reads 256 numbers of d bits each. The count is kept by hand since it is wanted after the loop, where `enumerate` has none; numbers past
+// the 256th are counted and not kept, where a `Vec` would grow with the line.
 #[tactic(auto, using(crate::proofs::Gathered::gathered_steps))]
 fn read_numbers<W: Packed>(
     words: LineWords<'_>,
