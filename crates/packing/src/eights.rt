@@ -17,7 +17,7 @@ fn pack_eight<const D: usize>(x: &[u32; 8], out: &mut [u8])
     let mut have: usize = 0;
     let mut at: usize = 0;
     for i in 0..8 {
-        bits += ((x[i] as u64) & mask) << have;
+        bits += (u64::from(x[i]) & mask) << have;
         have += D;
         while have >= 8 {
             out[at] = (bits & 0xff) as u8;
@@ -40,7 +40,7 @@ fn unpack_eight<const D: usize>(bs: &[u8]) -> [u32; 8]
     let mut at: usize = 0;
     for i in 0..8 {
         while have < D {
-            bits += (bs[at] as u64) << have;
+            bits += u64::from(bs[at]) << have;
             have += 8;
             at += 1;
         }

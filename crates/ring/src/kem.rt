@@ -51,8 +51,8 @@ fn base_case_multiply(a0: u16, a1: u16, b0: u16, b1: u16, gamma: u16) -> (u16, u
     ensures low { result.0 ≡ (a0 * b0 + (a1 * b1) % 3329 * gamma) % 3329 }
     ensures high { result.1 ≡ (a0 * b1 + a1 * b0) % 3329 }
 {
-    let (a0, a1, b0, b1) = (a0 as u32, a1 as u32, b0 as u32, b1 as u32);
-    let low = (a0 * b0 + a1 * b1 % 3329 * gamma as u32) % 3329;
+    let (a0, a1, b0, b1) = (u32::from(a0), u32::from(a1), u32::from(b0), u32::from(b1));
+    let low = (a0 * b0 + a1 * b1 % 3329 * u32::from(gamma)) % 3329;
     let high = (a0 * b1 + a1 * b0) % 3329;
     (low as u16, high as u16)
 }

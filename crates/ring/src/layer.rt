@@ -8,7 +8,8 @@ ghost use Rattle.algebra.specs.Layers.{block_to, layer_to, Factors};
 use crate::butterfly::Butterfly;
 use crate::number::Modular;
 
-// One block: its butterflies take two numbers that stand `len` apart.
+// One block: its butterflies take two numbers that stand `len` apart. `start` and `len` are the standards' own loop variables and count places of the
+// whole row, of which the laws of a layer speak; a slice of the block alone would count anew and need a second law to say where it stands.
 fn block<B: Butterfly, F: Modular>(f: &mut [F; 256], start: usize, len: usize, z: F)
     requires fits { start + 2 * len ≤ 256 }
     requires factor { F.value z < F.q }

@@ -41,7 +41,7 @@ impl Modular for u16 {
     }
 
     fn mul_mod(self, other: u16) -> u16 {
-        (self as u32 * other as u32 % 3329) as u16
+        (u32::from(self) * u32::from(other) % 3329) as u16
     }
 }
 
@@ -60,6 +60,6 @@ impl Modular for u32 {
     }
 
     fn mul_mod(self, other: u32) -> u32 {
-        (self as u64 * other as u64 % 8380417) as u32
+        (u64::from(self) * u64::from(other) % 8380417) as u32
     }
 }

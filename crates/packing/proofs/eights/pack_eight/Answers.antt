@@ -11,10 +11,11 @@ loop-have-init g c =
     let d = g.row.D in
     let xs = c.args.x.now in
     let s = c.loop-i in
-    let x = at xs s.i in
+    let x = c.from.result in
+    let is : x ≡ at xs s.i = omega arith in
     let in_place : (bit_and x ((1 * 2 ^ d) % 2 ^ 64 - 1) * 2 ^ s.have) % 2 ^ 64 ≡ (x % 2 ^ d) * 2 ^ s.have =
     ap (λ y. (y * 2 ^ s.have) % 2 ^ 64) (masked x d (omega arith)) ∙ placed x d s.have (omega arith) in
-    (subst (λ y. Waiting (whole d xs) d 8 (s.i + 1) s.at (s.have + d) (s.bits + y) s.out) (sym in_place) (comes (x % 2 ^ d) (sym (digit d xs s.i)) s.invariant.0), omega arith)
+    (subst (λ y. Waiting (whole d xs) d 8 (s.i + 1) s.at (s.have + d) (s.bits + y) s.out) (sym in_place) (comes (x % 2 ^ d) (ap (λ y. y % 2 ^ d) is ∙ sym (digit d xs s.i)) s.invariant.0), omega arith)
 
 pub bounds-out-at : goal.bounds-out-at
 bounds-out-at g c = omega (arith, c.loop-have.invariant.0.place, mul-le-mul_left {m = c.loop-i.i + 1} {n = 8} g.row.D (omega arith))

@@ -1,4 +1,4 @@
-use Rattle.std.proofs.Common.{◌+◌, ◌-◌, ◌/◌, ◌^◌, ◌<◌, set, sym, ap, ◌∙◌, subst, mod-eq_of_lt, mul-le-mul_left, arith, length-set}
+use Rattle.std.proofs.Common.{◌≡◌, ◌+◌, ◌-◌, ◌/◌, ◌^◌, ◌<◌, set, sym, ap, ◌∙◌, subst, mod-eq_of_lt, mul-le-mul_left, arith, length-set}
 use Rattle.std.proofs.lemmas.Nat.{shl_whole}
 use Rattle.standards.specs.Lists.{at}
 use Rattle.algebra.proofs.Windows.{whole, digit, masked}
@@ -13,9 +13,11 @@ pub loop-have-preserved : goal.loop-have-preserved
 loop-have-preserved g c =
     let bs = c.args.bs.now in
     let s = c.loop-have in
+    let b = c.from.result in
+    let is : b ≡ at bs s.at = omega arith in
     let byte : at bs s.at < 2 ^ 8 = omega arith in (
-      subst (λ y. Waiting (whole 8 bs) 8 g.row.D (s.at + 1) c.loop-i.i (s.have + 8) (s.bits + y) c.loop-i.x) (sym (shl_whole (at bs s.at) 8 s.have 64 byte (omega arith)))
-          (comes (at bs s.at) (sym (digit 8 bs s.at ∙ mod-eq_of_lt byte)) s.invariant.0),
+      subst (λ y. Waiting (whole 8 bs) 8 g.row.D (s.at + 1) c.loop-i.i (s.have + 8) (s.bits + y) c.loop-i.x) (sym (shl_whole b 8 s.have 64 (omega arith) (omega arith)))
+          (comes b (is ∙ sym (digit 8 bs s.at ∙ mod-eq_of_lt byte)) s.invariant.0),
       omega arith,
     )
 

@@ -6,9 +6,10 @@ pub overflow_add-low : goal.overflow_add-low
 overflow_add-low c =
     omega (
       arith,
-      mul-lt c.args.a0 c.args.b0 3329 3329 c.requires.first.0 c.requires.second.0,
-      mul-lt ((c.args.a1 * c.args.b1) % 3329) c.args.gamma 3329 3329 (mod-lt _ (lit< tt)) c.requires.root,
+      mul-lt c.from-a0.result c.from-b0.result 3329 3329 (omega arith) (omega arith),
+      mul-lt ((c.from-a1.result * c.from-b1.result) % 3329) c.from.result 3329 3329 (mod-lt _ (lit< tt)) (omega arith),
     )
 
 pub overflow_add-high : goal.overflow_add-high
-overflow_add-high c = omega (arith, mul-lt c.args.a0 c.args.b1 3329 3329 c.requires.first.0 c.requires.second.1, mul-lt c.args.a1 c.args.b0 3329 3329 c.requires.first.1 c.requires.second.0)
+overflow_add-high c =
+    omega (arith, mul-lt c.from-a0.result c.from-b1.result 3329 3329 (omega arith) (omega arith), mul-lt c.from-a1.result c.from-b0.result 3329 3329 (omega arith) (omega arith))
