@@ -44,7 +44,8 @@ pub trait Digest<const N: usize>: Absorb + Sized {
         ensures { result ≡ table N (Self.stream self []) };
 }
 
-// Four streams that are read side by side. `rests s` are those that are still to come.
+// Four streams that are read side by side. `rests s` are those that are still to come. Four parts go one by one: an array of slices that are lent
+// to be written, each with a lifetime of its own, is not covered by the checker at a call.
 pub trait FourReaders {
     ghost rests: { Self → Four };
 
@@ -115,7 +116,7 @@ pub trait Hash {
         digest.finish()
     }
 
-    // A message of two parts, of which the second may be empty.
+    // A message of two parts, of which the second may be empty. Two parameters let the clause say `a ++ b`; an array of parts would end it in `++ []`.
     fn sha3_512(a: &[u8], b: &[u8]) -> [u8; 64]
         ensures { result ≡ hashes.sha3_512 (a.now ++ b.now) }
     {
