@@ -5,7 +5,7 @@
 // The loops run over lengths and widths alone: nothing depends on a number's value.
 #![tactic(auto)]
 
-ghost use Rattle.std.specs.Prelude.{◌≡◌, ℕ, ◌*◌, ◌≤◌, Bool, T, length};
+ghost use Rattle.std.specs.Prelude.{◌≡◌, ℕ, ◌*◌, ◌≤◌, Bool, false, T, length, MatchResult};
 ghost use Rattle.standards.specs.Bytes.{pack, unpack};
 ghost use Rattle.packing.specs.Widths.{kem_width, dsa_width, any_width, kem_is_any, dsa_is_any, kem_fits, dsa_fits};
 
@@ -21,6 +21,10 @@ use words::Word;
 pub trait Packed: Word {
     ghost width: { ℕ → Bool };
 
+    // Whether numbers of d bits are packed.
+    fn is_width(d: usize) -> bool
+        ensures { result ≡ width d };
+
     // It is one of the widths there are, and a word has room for it.
     ghost is_any: { (d : ℕ) → T (width d) → T (any_width d) };
 
@@ -33,6 +37,10 @@ impl Packed for u16 {
     ghost is_any = { kem_is_any };
 
     ghost fits = { kem_fits };
+
+    fn is_width(d: usize) -> bool {
+        matches!(d, 1 | 4 | 5 | 6 | 10 | 11 | 12)
+    }
 }
 
 impl Packed for u32 {
@@ -41,6 +49,10 @@ impl Packed for u32 {
     ghost is_any = { dsa_is_any };
 
     ghost fits = { dsa_fits };
+
+    fn is_width(d: usize) -> bool {
+        matches!(d, 3 | 4 | 6 | 10 | 13 | 18 | 20)
+    }
 }
 
 // How many bits a packed number has: one of the widths of the scheme whose words are W. `of` names W, which the fact alone would not, and takes no room.
@@ -62,6 +74,28 @@ impl<W: Packed> Clone for Width<W> {
 }
 
 impl<W: Packed> Copy for Width<W> {}
+
+// Numbers of that many bits are not packed.
+#[derive(Clone, Copy, Debug, PartialEq, Eq)]
+pub struct NoWidth;
+
+// The width of n bits, if it is one of the scheme's.
+impl<W: Packed> TryFrom<usize> for Width<W> {
+    type Error = NoWidth;
+
+    ghost try_from_gives = { λ n r. MatchResult r (λ d. T (W.width n) × (d.bits ≡ n)) (λ _. W.width n ≡ false) };
+
+    fn try_from(n: usize) -> Result<Width<W>, NoWidth> {
+        if W::is_width(n) {
+            Ok(Width {
+                bits: n,
+                of: PhantomData,
+            })
+        } else {
+            Err(NoWidth)
+        }
+    }
+}
 
 // 256 numbers as 32 d bytes. What a number has above its d bits is left out.
 pub fn pack<W: Packed>(d: Width<W>, f: &[W; 256], out: &mut [u8])
