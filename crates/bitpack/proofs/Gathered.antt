@@ -2,9 +2,7 @@
 use Rattle.std.proofs.Common.{◌≡◌, ℕ, ◌+◌, ◌<◌, ◌≤◌, ◌^◌, ◌≢◌, Bool, true, false, cond, List, [], ◌∷◌, ◌++◌, length, map, set, take, Result, Ok, Err, eqb, nat_lt, refl, sym, ap, ◌∙◌, append_assoc, append-nil, subst, arith, length-append, length-set}
 use Rattle.std.proofs.lemmas.Bool.Decides.{nat_tests}
 use Rattle.std.proofs.lemmas.List.{map-set, take_more_set, take_all}
-use Rattle.lines.specs.Problems.{◌>>=◌, Fails}
-use Rattle.lines.proofs.Problems.{fails_then}
-use Rattle.bitpack.specs.Problems.{no_memory}
+use Rattle.lines.specs.Problems.{◌>>=◌}
 use Rattle.bitpack.specs.Answers.{number_of, all_of, numbers_of}
 use Rattle.bitpack.specs.declared.problem.Problem.{Problem}
 use Rattle.bitpack.specs.declared.problem.Problem.TheVariants.{Numbers}
@@ -65,10 +63,10 @@ module _ {d : ℕ} {words left : List (List ℕ)} {n : ℕ} {row : List ℕ} (g 
         rw (all, count, g.count) refl
 
   -- a word is no number of d bits
-  pub gathered_fails : (word : List ℕ) (more : List (List ℕ)) (problem : Problem) → left ≡ word ∷ more → Fails no_memory problem (number_of d word) → Fails no_memory problem (numbers_of d words)
+  pub gathered_fails : (word : List ℕ) (more : List (List ℕ)) (problem : Problem) → left ≡ word ∷ more → number_of d word ≡ Err problem → numbers_of d words ≡ Err problem
   gathered_fails word more problem is h =
       let first : all_of d words ≡ before g.done (number_of d word >>= λ x. all_of d more >>= λ xs. Ok (x ∷ xs)) = g.onward ∙ ap (λ l. before g.done (all_of d l)) is ∙ ap (before g.done) (all_cons d word more) in
-      subst (λ r. Fails no_memory problem (r >>= λ xs. cond (eqb (length xs) 256) (Ok xs) (Err (Numbers (length xs))))) (sym first) (fails_then no_memory problem _ _ (fails_then no_memory problem _ _ (fails_then no_memory problem _ _ h)))
+      rw (first, h) refl
 
 -- a word that is stored
 pub ruleset stored_steps = (map-set)

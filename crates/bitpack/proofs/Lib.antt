@@ -1,4 +1,3 @@
 mod Gathered
-mod Memory
 mod Parsed
 mod Printed

@@ -4,10 +4,8 @@ use Rattle.std.specs.Str.Parse.{IsNumeral, digits_value, without_leading_plus}
 use Rattle.std.proofs.lemmas.Bool.Decides.{nat_tests}
 use Rattle.std.proofs.Math.Nat.{lt-div-mul-add, div-eq_of_lt, pow-le-pow_right}
 use Rattle.std.proofs.lemmas.Nat.{pow_pos}
-use Rattle.lines.specs.Problems.{◌>>=◌, Fails, number_in}
+use Rattle.lines.specs.Problems.{◌>>=◌, number_in}
 use Rattle.lines.proofs.Numbers.{number_found, number_missing}
-use Rattle.lines.proofs.Problems.{fails}
-use Rattle.bitpack.specs.Problems.{no_memory}
 use Rattle.bitpack.specs.Answers.{number_of, width_of}
 use Rattle.bitpack.specs.declared.problem.Problem.{Problem}
 use Rattle.bitpack.specs.declared.problem.Problem.TheVariants.{NoNumber, TooLarge}
@@ -44,9 +42,9 @@ pub width_found : (is_width : ℕ → Bool) (other : Problem) (word : List ℕ) 
     → is_width n ≡ true → width_of is_width other word ≡ Ok n
 width_found is_width other word n h small e is = rw (number_found NoNumber 64 word n h small e, is) refl
 
-pub width_other : (is_width : ℕ → Bool) (other problem : Problem) (word : List ℕ) (n : ℕ) → let ds = without_leading_plus word in IsNumeral 10 ds → digits_value 10 ds < 2 ^ 64 → n ≡ digits_value 10 ds
-    → is_width n ≡ false → problem ≡ other → Fails no_memory problem (width_of is_width other word)
-width_other is_width other problem word n h small e is same = fails no_memory problem _ (rw (number_found NoNumber 64 word n h small e, is, same) refl)
+pub width_other : (is_width : ℕ → Bool) (other : Problem) (word : List ℕ) (n : ℕ) → let ds = without_leading_plus word in IsNumeral 10 ds → digits_value 10 ds < 2 ^ 64 → n ≡ digits_value 10 ds
+    → is_width n ≡ false → width_of is_width other word ≡ Err other
+width_other is_width other word n h small e is = rw (number_found NoNumber 64 word n h small e, is) refl
 
 pub width_none : (is_width : ℕ → Bool) (other : Problem) (word : List ℕ) → let ds = without_leading_plus word in ¬ (IsNumeral 10 ds × (digits_value 10 ds < 2 ^ 64)) → width_of is_width other word ≡ Err NoNumber
 width_none is_width other word none = rw (number_missing NoNumber 64 word none) refl

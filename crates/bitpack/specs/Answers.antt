@@ -8,7 +8,7 @@ use Rattle.lines.specs.Problems.{◌>>=◌, number_in}
 use Rattle.lines.specs.Words.{words_of}
 use Rattle.bitpack.specs.Problems.{text_of}
 use Rattle.bitpack.specs.declared.problem.Problem.{Problem}
-use Rattle.bitpack.specs.declared.problem.Problem.TheVariants.{Usage, KemWidth, DsaWidth, NoNumber, TooLarge, Numbers, NotHex, Bytes, NoMemory}
+use Rattle.bitpack.specs.declared.problem.Problem.TheVariants.{Usage, KemWidth, DsaWidth, NoNumber, TooLarge, Numbers, NotHex, Bytes}
 
 -- ---- words as numbers
 -- a width, and what another is answered
@@ -85,4 +85,4 @@ answer_of line = words_answer (words_of line)
 
 -- what is written for a line: the answer, what is wrong with the line, or that there is no memory
 abbrev pub Answers : List ℕ → List ℕ → Type 0
-Answers = StatedOr text_of NoMemory answer_of
+Answers = StatedOr text_of answer_of

@@ -1,7 +1,7 @@
 -- What is wrong with a line, and what is printed of it. Characters are their codes. Assumes nothing.
-use Rattle.std.specs.Prelude.{ℕ, Bool, true, false, List, ◌++◌, codes, decimal}
+use Rattle.std.specs.Prelude.{ℕ, List, ◌++◌, codes, decimal}
 use Rattle.bitpack.specs.declared.problem.Problem.{Problem}
-use Rattle.bitpack.specs.declared.problem.Problem.TheVariants.{Usage, KemWidth, DsaWidth, NoNumber, TooLarge, Numbers, NotHex, Bytes, NoMemory}
+use Rattle.bitpack.specs.declared.problem.Problem.TheVariants.{Usage, KemWidth, DsaWidth, NoNumber, TooLarge, Numbers, NotHex, Bytes}
 
 abbrev pub text_of : Problem → List ℕ
 text_of Usage = codes "a line is: kem|dsa pack WIDTH NUMBERS, or kem|dsa unpack WIDTH DIGITS"
@@ -12,15 +12,3 @@ text_of TooLarge = codes "a number does not fit the width"
 text_of (Numbers n) = decimal n ++ codes " numbers, where 256 are wanted"
 text_of NotHex = codes "the bytes are not hexadecimal digits, an even number of them"
 text_of (Bytes n want) = decimal n ++ (codes " bytes, where " ++ (decimal want ++ codes " are wanted"))
-text_of NoMemory = codes "no memory"
-
-abbrev pub no_memory : Problem → Bool
-no_memory NoMemory = true
-no_memory Usage = false
-no_memory KemWidth = false
-no_memory DsaWidth = false
-no_memory NoNumber = false
-no_memory TooLarge = false
-no_memory (Numbers n) = false
-no_memory NotHex = false
-no_memory (Bytes n want) = false

@@ -4,13 +4,13 @@ ghost use Rattle.standards.specs.Bytes.{pack, unpack};
 ghost use Rattle.hex_digits.specs.Hex.{hex_of};
 ghost use Rattle.lines.specs.Left.{left};
 ghost use Rattle.lines.specs.Problems.{Gives};
-ghost use Rattle.bitpack.specs.Problems.{no_memory};
 ghost use Rattle.bitpack.specs.Answers.{numbers_shown, pack_answer, unpack_answer, command_answer, answer_of};
 
 use crate::problem::Problem;
 use crate::read::{bytes, numbers};
 use crate::width::{Scheme, width};
 use hex_digits::hex_text;
+use lines::failure::Failure;
 use lines::words::LineWords;
 use packing::{Packed, Width, pack, unpack};
 use std::alloc::{AllocError, Global};
@@ -52,8 +52,12 @@ fn unpacked<W: Packed>(w: Width<W>, bs: &[u8]) -> [W; 256]
 }
 
 // The answer to the numbers behind a width.
-fn pack_line<W: Scheme>(heap: Global, w: Width<W>, words: LineWords<'_>) -> Result<String, Problem>
-    ensures { Gives no_memory string_bytes result (pack_answer w.bits (left words.entry)) }
+fn pack_line<W: Scheme>(
+    heap: Global,
+    w: Width<W>,
+    words: LineWords<'_>,
+) -> Result<String, Failure<Problem>>
+    ensures { Gives string_bytes result (pack_answer w.bits (left words.entry)) }
 {
     let f = numbers(words, w)?;
     Ok(packed(heap, w, &f)?)
@@ -64,8 +68,8 @@ fn unpack_line<W: Scheme>(
     heap: Global,
     w: Width<W>,
     words: LineWords<'_>,
-) -> Result<String, Problem>
-    ensures { Gives no_memory string_bytes result (unpack_answer w.bits (left words.entry)) }
+) -> Result<String, Failure<Problem>>
+    ensures { Gives string_bytes result (unpack_answer w.bits (left words.entry)) }
 {
     let bs = bytes(heap, words, 32 * w.bits)?;
     Ok(shown(heap, &unpacked(w, &bs))?)
@@ -73,25 +77,25 @@ fn unpack_line<W: Scheme>(
 
 // The answer to `pack` or `unpack`, a width and what is behind it. The words are the program's commands: each arm is another call.
 #[tactic(auto, unfolding(crate::specs::Answers::command_answer))]
-fn command<W: Scheme>(heap: Global, mut words: LineWords<'_>) -> Result<String, Problem>
-    ensures { Gives no_memory string_bytes result (command_answer W.width W.OTHER_WIDTH (left words.entry)) }
+fn command<W: Scheme>(heap: Global, mut words: LineWords<'_>) -> Result<String, Failure<Problem>>
+    ensures { Gives string_bytes result (command_answer W.width W.OTHER_WIDTH (left words.entry)) }
 {
     match (words.next(), words.next()) {
         (Some("pack"), Some(word)) => pack_line::<W>(heap, width(word)?, words),
         (Some("unpack"), Some(word)) => unpack_line::<W>(heap, width(word)?, words),
-        _ => Err(Problem::Usage),
+        _ => Err(Failure::Problem(Problem::Usage)),
     }
 }
 
 // The answer to a line. The schemes' names are commands too: each arm is a call at another type.
 #[tactic(auto, unfolding(crate::specs::Answers::words_answer))]
-pub fn answer(heap: Global, line: &str) -> Result<String, Problem>
-    ensures { Gives no_memory string_bytes result (answer_of line.now) }
+pub fn answer(heap: Global, line: &str) -> Result<String, Failure<Problem>>
+    ensures { Gives string_bytes result (answer_of line.now) }
 {
     let mut words = LineWords::new(line);
     match words.next() {
         Some("kem") => command::<u16>(heap, words),
         Some("dsa") => command::<u32>(heap, words),
-        _ => Err(Problem::Usage),
+        _ => Err(Failure::Problem(Problem::Usage)),
     }
 }

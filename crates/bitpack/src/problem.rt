@@ -1,7 +1,7 @@
 // What is wrong with a line.
 ghost use Rattle.std.specs.Prelude.{◌≡◌};
 
-use std::alloc::AllocError;
+use lines::failure::Failure;
 use std::fmt;
 use std::num::ParseIntError;
 
@@ -15,7 +15,6 @@ pub enum Problem {
     Numbers(usize),
     NotHex,
     Bytes(usize, usize),
-    NoMemory,
 }
 
 impl fmt::Display for Problem {
@@ -42,18 +41,17 @@ impl fmt::Display for Problem {
                 "the bytes are not hexadecimal digits, an even number of them",
             ),
             Problem::Bytes(n, want) => write!(f, "{n} bytes, where {want} are wanted"),
-            Problem::NoMemory => f.write_str("no memory"),
         }
     }
 }
 
-impl From<AllocError> for Problem {
-    ghost use Rattle.bitpack.specs.declared.problem.Problem.TheVariants.{NoMemory};
+impl From<Problem> for Failure<Problem> {
+    ghost use Rattle.lines.specs.declared.failure.Failure.TheVariants.{Problem};
 
-    ghost from_gives = { λ _ problem. problem ≡ NoMemory };
+    ghost from_gives = { λ problem failure. failure ≡ Problem problem };
 
-    fn from(_error: AllocError) -> Problem {
-        Problem::NoMemory
+    fn from(problem: Problem) -> Failure<Problem> {
+        Failure::Problem(problem)
     }
 }
 

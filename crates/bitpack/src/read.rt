@@ -1,12 +1,12 @@
 // What the words of a line write.
 ghost use Rattle.std.specs.Prelude.{◌≡◌, ◌^◌, ◌<◌, ◌≤◌, slice_set};
 ghost use Rattle.lines.specs.Left.{left};
-ghost use Rattle.lines.specs.Problems.{Gives};
-ghost use Rattle.bitpack.specs.Problems.{no_memory};
+ghost use Rattle.lines.specs.Problems.{viewed, Gives};
 ghost use Rattle.bitpack.specs.Answers.{number_of, numbers_of, bytes_in};
 
 use crate::problem::Problem;
 use hex_digits::read_hex;
+use lines::failure::Failure;
 use lines::words::LineWords;
 use packing::{Packed, Width};
 use std::alloc::Global;
@@ -16,7 +16,7 @@ use words::Word;
 #[tactic(auto, using(crate::proofs::Parsed::parse_steps))]
 fn number(word: &str, d: usize) -> Result<u32, Problem>
     requires { d ≤ 31 }
-    ensures { Gives no_memory (λ x. x) result (number_of d word.now) }
+    ensures { result ≡ number_of d word.now }
 {
     let x = word.parse::<u32>()?;
     if x >> d == 0 {
@@ -45,7 +45,7 @@ fn read_numbers<W: Packed>(
     w: Width<W>,
     f: &mut [W; 256],
 ) -> Result<(), Problem>
-    ensures { Gives no_memory (λ _. W.numbers f.new) result (numbers_of w.bits (left words.entry)) }
+    ensures { viewed (λ _. W.numbers f.new) result ≡ numbers_of w.bits (left words.entry) }
 {
     let mut n: usize = 0;
     for word in words {
@@ -62,7 +62,7 @@ fn read_numbers<W: Packed>(
 
 // The 256 numbers that the words write.
 pub fn numbers<W: Packed>(words: LineWords<'_>, w: Width<W>) -> Result<[W; 256], Problem>
-    ensures { Gives no_memory W.numbers result (numbers_of w.bits (left words.entry)) }
+    ensures { viewed W.numbers result ≡ numbers_of w.bits (left words.entry) }
 {
     let mut f = [W::narrow(0); 256];
     read_numbers(words, w, &mut f)?;
@@ -70,14 +70,18 @@ pub fn numbers<W: Packed>(words: LineWords<'_>, w: Width<W>) -> Result<[W; 256],
 }
 
 // The bytes that the next word writes, as many as are wanted.
-pub fn bytes(heap: Global, mut words: LineWords<'_>, want: usize) -> Result<Vec<u8>, Problem>
-    ensures { Gives no_memory (λ v. v.items) result (bytes_in want (left words.entry)) }
+pub fn bytes(
+    heap: Global,
+    mut words: LineWords<'_>,
+    want: usize,
+) -> Result<Vec<u8>, Failure<Problem>>
+    ensures { Gives (λ v. v.items) result (bytes_in want (left words.entry)) }
 {
     let word = words.next().ok_or(Problem::Usage)?;
     let bs = read_hex(heap, word.as_bytes())?.ok_or(Problem::NotHex)?;
     if bs.len() == want {
         Ok(bs)
     } else {
-        Err(Problem::Bytes(bs.len(), want))
+        Err(Failure::Problem(Problem::Bytes(bs.len(), want)))
     }
 }

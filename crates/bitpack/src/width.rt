@@ -1,9 +1,8 @@
 // How the widths at which a scheme packs its numbers are read.
 ghost use Rattle.std.specs.Prelude.{◌≡◌, ◌*◌, ◌<◌, ◌^◌};
 ghost use Rattle.std.specs.Mem.{type_size};
-ghost use Rattle.lines.specs.Problems.{Gives};
+ghost use Rattle.lines.specs.Problems.{viewed};
 ghost use Rattle.bitpack.specs.declared.problem.Problem.{Problem};
-ghost use Rattle.bitpack.specs.Problems.{no_memory};
 ghost use Rattle.bitpack.specs.Answers.{width_of};
 
 use crate::problem::Problem;
@@ -45,8 +44,8 @@ impl Scheme for u32 {
 // The width that a word writes.
 #[tactic(auto, using(crate::proofs::Parsed::width_steps))]
 pub fn width<W: Scheme>(word: &str) -> Result<Width<W>, Problem>
-    ensures { Gives no_memory (λ w. w.bits) result (width_of W.width W.OTHER_WIDTH word.now) }
+    ensures { viewed (λ w. w.bits) result ≡ width_of W.width W.OTHER_WIDTH word.now }
 {
     let bits = word.parse::<usize>()?;
-    Width::try_from(bits).or(Err(W::OTHER_WIDTH))
+    Width::try_from(bits).map_err(|_| W::OTHER_WIDTH)
 }

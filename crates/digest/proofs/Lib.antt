@@ -1,2 +1,1 @@
-mod Memory
 mod Read

@@ -32,4 +32,6 @@ count_found = number_found NoNumber 64
 pub count_missing : (word : List ℕ) → let ds = without_leading_plus word in ¬ (IsNumeral 10 ds × (digits_value 10 ds < 2 ^ 64)) → number_in NoNumber 64 word ≡ Err NoNumber
 count_missing = number_missing NoNumber 64
 
-pub ruleset read_steps = (function_found, function_missing, count_found, count_missing)
+pub ruleset function_steps = (function_found, function_missing)
+
+pub ruleset number_steps = (count_found, count_missing)

@@ -1,5 +1,5 @@
 -- What the program answers to a line, and what it prints. Characters are their codes. Assumes nothing.
-use Rattle.std.specs.Prelude.{ℕ, Bool, true, false, cond, List, [], ◌∷◌, Result, Ok, Err, codes, bytes_eq}
+use Rattle.std.specs.Prelude.{ℕ, cond, List, [], ◌∷◌, Result, Ok, Err, codes, bytes_eq}
 use Rattle.hex_digits.specs.Hex.{hex_of, is_hex, bytes_of}
 use Rattle.lines.specs.Answers.{StatedOr}
 use Rattle.lines.specs.Problems.{◌>>=◌, number_in}
@@ -8,7 +8,7 @@ use Rattle.digest.specs.Functions.{gives, hash_of}
 use Rattle.digest.specs.declared.functions.Function.{Function}
 use Rattle.digest.specs.declared.functions.Function.TheVariants.{Sha3_256, Sha3_512, Shake128, Shake256}
 use Rattle.digest.specs.declared.answers.Problem.{Problem}
-use Rattle.digest.specs.declared.answers.Problem.TheVariants.{Usage, NoFunction, NotHex, NoNumber, Length, NoMemory}
+use Rattle.digest.specs.declared.answers.Problem.TheVariants.{Usage, NoFunction, NotHex, NoNumber, Length}
 
 -- what is printed of a problem
 abbrev pub text_of : Problem → List ℕ
@@ -17,15 +17,6 @@ text_of NoFunction = codes "the functions are sha3-256, sha3-512, shake128 and s
 text_of NotHex = codes "the message is not hexadecimal digits, an even number of them"
 text_of NoNumber = codes "the number of bytes is not a number"
 text_of Length = codes "the function does not give that many bytes"
-text_of NoMemory = codes "no memory"
-
-abbrev pub no_memory : Problem → Bool
-no_memory NoMemory = true
-no_memory Usage = false
-no_memory NoFunction = false
-no_memory NotHex = false
-no_memory NoNumber = false
-no_memory Length = false
 
 -- the function of that name
 abbrev pub function_of : List ℕ → Result Function Problem
@@ -66,4 +57,4 @@ answer_of line = reply_to (words_of line)
 
 -- what is written for a line: the answer, what is wrong with the line, or that there is no memory
 abbrev pub Answers : List ℕ → List ℕ → Type 0
-Answers = StatedOr text_of NoMemory answer_of
+Answers = StatedOr text_of answer_of

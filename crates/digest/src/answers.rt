@@ -1,14 +1,15 @@
 // What a line is answered.
 ghost use Rattle.std.specs.Prelude.{◌≡◌, IfOk, string_bytes};
-ghost use Rattle.lines.specs.Problems.{Gives};
-ghost use Rattle.digest.specs.Answers.{no_memory, message_of, shown_of, reply_of, answer_of};
+ghost use Rattle.lines.specs.Problems.{number_in, Gives};
+ghost use Rattle.digest.specs.Answers.{message_of, shown_of, reply_of, answer_of};
+ghost use Rattle.digest.specs.declared.answers.Problem.TheVariants.{NoNumber};
 
-use crate::functions::{Function, NoSuchFunction, hashed};
+use crate::functions::{Function, hashed};
 use hex_digits::{hex_text, read_hex};
+use lines::failure::Failure;
 use lines::three_words;
 use std::alloc::{AllocError, Global};
 use std::fmt;
-use std::num::ParseIntError;
 
 // What is wrong with a line.
 #[derive(Clone, Copy)]
@@ -18,7 +19,6 @@ pub enum Problem {
     NotHex,
     NoNumber,
     Length,
-    NoMemory,
 }
 
 impl fmt::Display for Problem {
@@ -34,49 +34,28 @@ impl fmt::Display for Problem {
             Problem::NotHex => "the message is not hexadecimal digits, an even number of them",
             Problem::NoNumber => "the number of bytes is not a number",
             Problem::Length => "the function does not give that many bytes",
-            Problem::NoMemory => "no memory",
         })
     }
 }
 
-impl From<NoSuchFunction> for Problem {
-    ghost use Rattle.digest.specs.declared.answers.Problem.TheVariants.{NoFunction};
+impl From<Problem> for Failure<Problem> {
+    ghost use Rattle.lines.specs.declared.failure.Failure.TheVariants.{Problem};
 
-    ghost from_gives = { λ _ problem. problem ≡ NoFunction };
+    ghost from_gives = { λ problem failure. failure ≡ Problem problem };
 
-    fn from(_error: NoSuchFunction) -> Problem {
-        Problem::NoFunction
-    }
-}
-
-impl From<ParseIntError> for Problem {
-    ghost use Rattle.digest.specs.declared.answers.Problem.TheVariants.{NoNumber};
-
-    ghost from_gives = { λ _ problem. problem ≡ NoNumber };
-
-    fn from(_error: ParseIntError) -> Problem {
-        Problem::NoNumber
-    }
-}
-
-impl From<AllocError> for Problem {
-    ghost use Rattle.digest.specs.declared.answers.Problem.TheVariants.{NoMemory};
-
-    ghost from_gives = { λ _ problem. problem ≡ NoMemory };
-
-    fn from(_error: AllocError) -> Problem {
-        Problem::NoMemory
+    fn from(problem: Problem) -> Failure<Problem> {
+        Failure::Problem(problem)
     }
 }
 
 // The message that a word writes.
-fn message(heap: Global, word: &str) -> Result<Vec<u8>, Problem>
-    ensures { Gives no_memory (λ v. v.items) result (message_of word.now) }
+fn message(heap: Global, word: &str) -> Result<Vec<u8>, Failure<Problem>>
+    ensures { Gives (λ v. v.items) result (message_of word.now) }
 {
     if word == "-" {
         return Ok(Vec::new(heap));
     }
-    read_hex(heap, word.as_bytes())?.ok_or(Problem::NotHex)
+    Ok(read_hex(heap, word.as_bytes())?.ok_or(Problem::NotHex)?)
 }
 
 // Bytes as they are printed.
@@ -90,21 +69,36 @@ fn shown(heap: Global, bytes: &[u8]) -> Result<String, AllocError>
     }
 }
 
-// The answer to three words.
-#[tactic(auto, using(crate::proofs::Read::read_steps), unfolding(crate::specs::Answers::reply_of))]
-fn reply(heap: Global, function: &str, digits: &str, count: &str) -> Result<String, Problem>
-    ensures { Gives no_memory string_bytes result (reply_of function.now digits.now count.now) }
+// The number that a word writes.
+#[tactic(auto, using(crate::proofs::Read::number_steps))]
+fn number(word: &str) -> Result<usize, Problem>
+    ensures { result ≡ number_in NoNumber 64 word.now }
 {
-    let f = function.parse::<Function>()?;
+    word.parse::<usize>().map_err(|_| Problem::NoNumber)
+}
+
+// The answer to three words.
+#[tactic(auto, using(crate::proofs::Read::function_steps), unfolding(crate::specs::Answers::reply_of))]
+fn reply(
+    heap: Global,
+    function: &str,
+    digits: &str,
+    count: &str,
+) -> Result<String, Failure<Problem>>
+    ensures { Gives string_bytes result (reply_of function.now digits.now count.now) }
+{
+    let f = function
+        .parse::<Function>()
+        .map_err(|_| Problem::NoFunction)?;
     let m = message(heap, digits)?;
-    let n = count.parse::<usize>()?;
+    let n = number(count)?;
     let bytes = hashed(heap, f, &m, n)?.ok_or(Problem::Length)?;
     Ok(shown(heap, &bytes)?)
 }
 
 // The answer to a line.
-pub fn answer(heap: Global, line: &str) -> Result<String, Problem>
-    ensures { Gives no_memory string_bytes result (answer_of line.now) }
+pub fn answer(heap: Global, line: &str) -> Result<String, Failure<Problem>>
+    ensures { Gives string_bytes result (answer_of line.now) }
 {
     let (function, digits, count) = three_words(line).ok_or(Problem::Usage)?;
     reply(heap, function, digits, count)

@@ -22,6 +22,6 @@ abbrev pub line_of : {E : Type 0} → (E → List ℕ) → Result (List ℕ) E �
 line_of text_of (Ok text) = text ++ codes "\n"
 line_of text_of (Err problem) = codes "cannot: " ++ (text_of problem ++ codes "\n")
 
--- what is stated for the line, or that there is no memory, which the problem `memory` says
-abbrev pub StatedOr : {E : Type 0} → (E → List ℕ) → E → (List ℕ → Result (List ℕ) E) → List ℕ → List ℕ → Type 0
-StatedOr text_of memory answer_of line shown = (shown ≡ line_of text_of (answer_of line)) ⊎ (shown ≡ line_of text_of (Err memory))
+-- what is stated for the line, or that there is no memory
+abbrev pub StatedOr : {E : Type 0} → (E → List ℕ) → (List ℕ → Result (List ℕ) E) → List ℕ → List ℕ → Type 0
+StatedOr text_of answer_of line shown = (shown ≡ line_of text_of (answer_of line)) ⊎ (shown ≡ codes "cannot: no memory\n")

@@ -1,7 +1,9 @@
 -- What is wrong with a line, over any type of problems. Assumes nothing.
-use Rattle.std.specs.Prelude.{◌≡◌, ℕ, ◌^◌, Bool, true, false, cond, ◌&&◌, List, length, Result, Ok, Err, nat_lt}
+use Rattle.std.specs.Prelude.{◌≡◌, ℕ, ◌^◌, Bool, cond, ◌&&◌, List, length, Option, Some, Result, Ok, Err, codes, nat_lt, ⊤}
 use Rattle.std.specs.Str.{all_ascii_digits}
 use Rattle.std.specs.Str.Parse.{digits_value, without_leading_plus}
+use Rattle.lines.specs.declared.failure.Failure.{Failure}
+use Rattle.lines.specs.declared.failure.Failure.TheVariants.{Problem, NoMemory}
 
 -- ---- a value, or the first thing that is wrong
 infixl 10 ◌>>=◌
@@ -9,17 +11,21 @@ abbrev pub ◌>>=◌ : {A B E : Type 0} → Result A E → (A → Result B E) �
 (Ok x) >>= f = f x
 (Err e) >>= f = Err e
 
--- ---- what a function of the code gives: what is stated, or that there is no memory; `no_memory` tells the problem that says so
-abbrev pub Unless : Bool → Type 0 → Type 0
-Unless true P = Unit {0}
-Unless false P = P
+-- ---- what a function of the code gives, as `view` reads it: what is stated
+abbrev pub viewed : {X Y E : Type 0} → (X → Y) → Result X E → Result Y E
+viewed view (Ok x) = Ok (view x)
+viewed view (Err problem) = Err problem
 
-abbrev pub Fails : {Y E : Type 0} → (E → Bool) → E → Result Y E → Type 0
-Fails no_memory problem stated = Unless (no_memory problem) (stated ≡ Err problem)
+-- what is stated, or that there is no memory
+abbrev pub Gives : {X Y E : Type 0} → (X → Y) → Result X (Failure E) → Result Y E → Type 0
+Gives view (Ok x) stated = stated ≡ Ok (view x)
+Gives view (Err (Problem problem)) stated = stated ≡ Err problem
+Gives view (Err NoMemory) stated = ⊤
 
-abbrev pub Gives : {X Y E : Type 0} → (E → Bool) → (X → Y) → Result X E → Result Y E → Type 0
-Gives no_memory view (Ok x) stated = stated ≡ Ok (view x)
-Gives no_memory view (Err e) stated = Fails no_memory e stated
+-- what a failure prints, where `output` is what a problem prints
+abbrev pub printed : {E : Type 0} → (E → Option (List ℕ)) → Failure E → Option (List ℕ)
+printed output (Problem problem) = output problem
+printed output NoMemory = Some (codes "no memory")
 
 -- ---- words as numbers
 -- one decimal digit or more

@@ -10,6 +10,7 @@ use std::alloc::Global;
 use std::fmt;
 use std::io::{self, BufRead, BufReader, LineWriter, Printer, Write};
 
+pub mod failure;
 pub mod words;
 
 // Answers each line of the input by a line: what `answer` gives, or behind `cannot: ` what is wrong. The clause says what is written

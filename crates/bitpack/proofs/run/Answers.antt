@@ -1,12 +1,10 @@
-use Rattle.std.proofs.Common.{refl, rules}
+use Rattle.std.proofs.Common.{rules}
 use Rattle.std.proofs.lemmas.Result.{on_ok_weaker}
 use Rattle.lines.proofs.Weaker.{AnswersLines-weaker}
-use Rattle.lines.proofs.Problems.{shows_answer}
-use Rattle.bitpack.specs.Problems.{text_of, no_memory}
+use Rattle.lines.proofs.Problems.{has_text, shows_answer}
+use Rattle.bitpack.specs.Problems.{text_of}
 use Rattle.bitpack.specs.Answers.{answer_of}
-use Rattle.bitpack.specs.declared.problem.Problem.TheVariants.{NoMemory}
-use Rattle.bitpack.proofs.Memory.{only}
 use Rattle.bitpack.proofs.run.Goals as goal
 
 pub returns : goal.returns
-returns g c = on_ok_weaker c.answer_lines.result (AnswersLines-weaker _ _ (λ line shown (r, returned, shows). shows_answer no_memory text_of NoMemory only answer_of line shown r (search rules) shows) _ _ _) (c.answer_lines.ensures (λ e. refl))
+returns g c = on_ok_weaker c.answer_lines.result (AnswersLines-weaker _ _ (λ line shown (r, returned, shows). shows_answer text_of answer_of line shown r (search rules) shows) _ _ _) (c.answer_lines.ensures (has_text text_of))
