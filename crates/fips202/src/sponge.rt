@@ -13,17 +13,7 @@ fn lane_at(bytes: &[u8], i: usize) -> u64
     requires { 8 * i + 8 ≤ length bytes.now }
     ensures { result ≡ lane_of bytes.now i }
 {
-    let p = 8 * i;
-    u64::from_le_bytes([
-        bytes[p],
-        bytes[p + 1],
-        bytes[p + 2],
-        bytes[p + 3],
-        bytes[p + 4],
-        bytes[p + 5],
-        bytes[p + 6],
-        bytes[p + 7],
-    ])
+    u64::from_le_bytes(*bytes[8 * i..].first_chunk().unwrap())
 }
 
 // Puts whole lanes in, from lane `first` on.
