@@ -5,8 +5,8 @@ ghost use Rattle.standards.specs.Hashes.{Hashes};
 ghost use Rattle.standards.specs.Fips202.{fips202};
 ghost use Rattle.standards.specs.Promises.{HashesAreFair};
 ghost use Rattle.standards.specs.Cases.{DigestCases};
-ghost use Rattle.fips202_laws.specs.Sponges.{stream_from, read_from};
 ghost use Rattle.fips202_laws.proofs.Fairness.{hashes_are_fair};
+ghost use Rattle.fips202.specs.States as states;
 
 use crate::sponge::{Sponge, Squeezer};
 use hash::in_turn::InTurn;
@@ -17,7 +17,7 @@ const SHA3: u8 = 0x06;
 const SHAKE: u8 = 0x1f;
 
 impl<const RATE: usize> Reader for Squeezer<RATE> {
-    ghost rest = { λ s. read_from RATE s.lanes s.place };
+    ghost rest = { states.rest };
 
     fn squeeze(&mut self, out: &mut [u8]) {
         self.squeeze(out);
@@ -35,7 +35,7 @@ pub type Shake128 = Shake<168>;
 pub type Shake256 = Shake<136>;
 
 impl<const RATE: usize> Absorb for Shake<RATE> {
-    ghost stream = { λ s. stream_from RATE 31 s.sponge.lanes s.sponge.place };
+    ghost stream = { λ s. states.stream 31 s.sponge };
 
     fn absorb(&mut self, part: &[u8]) {
         self.sponge.absorb(part);
@@ -63,7 +63,7 @@ pub type Sha3_256 = Sha3<136, 32>;
 pub type Sha3_512 = Sha3<72, 64>;
 
 impl<const RATE: usize, const N: usize> Absorb for Sha3<RATE, N> {
-    ghost stream = { λ s. stream_from RATE 6 s.sponge.lanes s.sponge.place };
+    ghost stream = { λ s. states.stream 6 s.sponge };
 
     fn absorb(&mut self, part: &[u8]) {
         self.sponge.absorb(part);

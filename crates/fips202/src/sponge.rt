@@ -1,10 +1,10 @@
 // The sponge: lanes that take in a message and give bytes, RATE bytes a block.
 // A message may be secret: loops go by index or by what is left of a slice, and their branches depend on lengths and on the place alone.
-ghost use Rattle.std.specs.Prelude.{◌≡◌, ℕ, ◌+◌, ◌*◌, ◌%◌, ◌<◌, ◌≤◌, List, [], length, take};
+ghost use Rattle.std.specs.Prelude.{◌≡◌, ◌+◌, ◌*◌, ◌%◌, ◌<◌, ◌≤◌, [], length, take};
 ghost use Rattle.standards.specs.Lists.{table};
 ghost use Rattle.standards.specs.Fips202.{lane_of, state_byte};
 ghost use Rattle.hash.specs.Streams.{later};
-ghost use Rattle.fips202_laws.specs.Sponges.{absorbed_from, stream_from, read_from, Absorbs, mixed_byte, mixed_lanes};
+ghost use Rattle.fips202_laws.specs.Sponges.{mixed_byte, mixed_lanes};
 
 use keccak::permute;
 
@@ -58,13 +58,15 @@ pub struct Sponge<const RATE: usize> {
 }
 
 impl<const RATE: usize> Sponge<RATE> {
+    // These words name the struct, and its ghost field reads the imports at the file's head, so they are imported here.
+    ghost use Rattle.fips202.specs.States.{IsEmpty, Takes, Counts, stream, rest};
+
     #[tactic(auto, unfolding(standards::specs::Lists::from))]
     pub fn new() -> Self
         requires rate_nonzero { 0 < RATE }
         requires value { RATE % 8 ≡ 0 }
         requires bound { RATE ≤ 200 }
-        ensures lanes { result.lanes ≡ table 25 (λ i. 0) }
-        ensures place { result.place ≡ 0 }
+        ensures { IsEmpty result }
     {
         Sponge {
             lanes: [0; 25],
@@ -76,7 +78,7 @@ impl<const RATE: usize> Sponge<RATE> {
     #[tactic(auto, using(fips202_laws::proofs::Absorbing::absorbs_full))]
     fn advance(&mut self, n: usize)
         requires { self.old.place + n ≤ RATE }
-        ensures { (suffix : ℕ) (m : List ℕ) → absorbed_from RATE suffix self.new.lanes self.new.place m ≡ absorbed_from RATE suffix self.old.lanes (self.old.place + n) m }
+        ensures { Counts self.old n self.new }
     {
         let place = self.place + n;
         if place == RATE {
@@ -93,7 +95,7 @@ impl<const RATE: usize> Sponge<RATE> {
         requires { 0 < length part.now }
         ensures some { 0 < result }
         ensures within { result ≤ length part.now }
-        ensures absorbs { Absorbs RATE self.old.lanes self.old.place (take result part.now) self.new.lanes self.new.place }
+        ensures absorbs { Takes self.old (take result part.now) self.new }
     {
         let left = part.len();
         if self.place % 8 == 0 && left >= 8 {
@@ -111,7 +113,7 @@ impl<const RATE: usize> Sponge<RATE> {
     // Takes in a part of any length.
     #[tactic(auto, using(fips202_laws::proofs::Absorbing::absorbs_rest))]
     pub fn absorb(&mut self, part: &[u8])
-        ensures { Absorbs RATE self.old.lanes self.old.place part.now self.new.lanes self.new.place }
+        ensures { Takes self.old part.now self.new }
     {
         let mut rest = part;
         while !rest.is_empty() {
@@ -123,7 +125,7 @@ impl<const RATE: usize> Sponge<RATE> {
     // Ends the message: the suffix behind it, and the padding's last bit at the end of the block.
     pub fn finish(self, suffix: u8) -> Squeezer<RATE>
         requires { suffix < 128 }
-        ensures { read_from RATE result.lanes result.place ≡ stream_from RATE suffix self.entry.lanes self.entry.place [] }
+        ensures { rest result ≡ stream suffix self.entry [] }
     {
         let Sponge { mut lanes, place } = self;
         mix_byte(&mut lanes, place, suffix);
@@ -142,10 +144,12 @@ pub struct Squeezer<const RATE: usize> {
 }
 
 impl<const RATE: usize> Squeezer<RATE> {
+    ghost use Rattle.fips202.specs.States.{rest};
+
     // Goes on to the next block where this one has been read.
     fn turn(&mut self)
         ensures inside { self.new.place < RATE }
-        ensures same { read_from RATE self.new.lanes self.new.place ≡ read_from RATE self.old.lanes self.old.place }
+        ensures same { rest self.new ≡ rest self.old }
     {
         if self.place == RATE {
             permute(&mut self.lanes);
@@ -159,8 +163,8 @@ impl<const RATE: usize> Squeezer<RATE> {
         requires { 0 < length out.old }
         ensures some { 0 < result }
         ensures within { result ≤ length out.old }
-        ensures bytes { take result out.new ≡ table result (read_from RATE self.old.lanes self.old.place) }
-        ensures onward { read_from RATE self.new.lanes self.new.place ≡ later result (read_from RATE self.old.lanes self.old.place) }
+        ensures bytes { take result out.new ≡ table result (rest self.old) }
+        ensures onward { rest self.new ≡ later result (rest self.old) }
     {
         self.turn();
         let n = (RATE - self.place).min(out.len());
@@ -172,8 +176,8 @@ impl<const RATE: usize> Squeezer<RATE> {
 
     // Fills `out`. It counts, where `absorb` has a slice that shrinks: an invariant can't name what was written before such a slice.
     pub fn squeeze(&mut self, out: &mut [u8])
-        ensures bytes { out.new ≡ table (length out.old) (read_from RATE self.old.lanes self.old.place) }
-        ensures onward { read_from RATE self.new.lanes self.new.place ≡ later (length out.old) (read_from RATE self.old.lanes self.old.place) }
+        ensures bytes { out.new ≡ table (length out.old) (rest self.old) }
+        ensures onward { rest self.new ≡ later (length out.old) (rest self.old) }
     {
         let mut done = 0;
         while done < out.len() {

@@ -3,7 +3,7 @@ use Rattle.std.proofs.Math.Path.{fun_ext}
 use Rattle.std.proofs.lemmas.List.{places}
 use Rattle.standards.specs.Lists.{from, table}
 use Rattle.hash.proofs.Parts.{later-later}
-use Rattle.fips202_laws.specs.Sponges.{read_from}
+use Rattle.fips202.specs.States.{rest}
 use Rattle.fips202_laws.proofs.Reading.{read_more}
 use Rattle.fips202.proofs.sponge.Squeezer.squeeze.Goals as goal
 
@@ -13,7 +13,7 @@ loop-done-init g c = record { within = omega arith; bytes = refl; onward = fun_e
 
 pub loop-done-preserved : goal.loop-done-preserved
 loop-done-preserved g c =
-    let f = read_from g.row.RATE c.args.self.now.lanes c.args.self.now.place in
+    let f = rest c.args.self.now in
     let i = c.loop-done.done in
     let out = c.loop-done.out in
     let call = c.squeeze_some-done in
