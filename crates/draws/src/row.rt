@@ -41,7 +41,7 @@ impl<W: Word, const N: usize> Row<W, N> {
     {
         let have = self.have;
         self.numbers[have] = x;
-        self.have = have + fits as usize;
+        self.have = have + usize::from(fits);
     }
 
     pub fn as_slice(&self) -> &[W]

@@ -11,7 +11,7 @@ fn compress_number(d: usize, x: u16) -> u16
     ensures value { result ≡ compress d x }
     ensures below { result < 2 ^ d }
 {
-    let t = (((x as u32) << (d + 1)) + 3329) / 6658;
+    let t = ((u32::from(x) << (d + 1)) + 3329) / 6658;
     (t & ((1u32 << d) - 1)) as u16
 }
 
@@ -22,7 +22,7 @@ fn decompress_number(d: usize, y: u16) -> u16
     ensures value { result ≡ decompress d y }
     ensures below { result < 3329 }
 {
-    ((6658 * y as u32 + (1u32 << d)) >> (d + 1)) as u16
+    ((6658 * u32::from(y) + (1u32 << d)) >> (d + 1)) as u16
 }
 
 // Compress, number by number.

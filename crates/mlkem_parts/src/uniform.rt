@@ -57,7 +57,9 @@ impl Candidates<368> for BelowQ {
 
     #[tactic(auto, unfolding(algebra::specs::Draws::accepted))]
     fn offer(self, group: &[u8], row: &mut Row<u16, 368>) {
-        let (a, b, c) = (group[0] as u16, group[1] as u16, group[2] as u16);
+        let a = u16::from(group[0]);
+        let b = u16::from(group[1]);
+        let c = u16::from(group[2]);
         let x = a + 256 * (b % 16);
         row.offer(x, x < 3329);
         let y = b / 16 + 16 * c;

@@ -21,7 +21,7 @@ pub fn differ(a: &[u8], b: &[u8]) -> u8
 fn mask(d: u8) -> u8
     ensures { (d ≡ 0 → result ≡ 0) × (0 < d → result ≡ 255) }
 {
-    let t = (d as u16 + 255) >> 8;
+    let t = (u16::from(d) + 255) >> 8;
     (t * 255) as u8
 }
 
