@@ -1,5 +1,5 @@
 -- Numbers that differ in no bit are the same; a choice by a mask.
-use Rattle.std.proofs.Common.{◌≡◌, ℕ, ◌+◌, ◌%◌, ◌^◌, ◌<◌, ◌≤◌, Bool, true, false, cond, ◌&&◌, eqb, List, [], ◌∷◌, ◌++◌, length, get_or, take, sym, refl, ap, ◌∙◌, subst, ap₂, inl, inr, mod-eq_of_lt, arith}
+use Rattle.std.proofs.Common.{◌≡◌, ℕ, ◌+◌, ◌<◌, ◌≤◌, Bool, true, false, cond, ◌&&◌, eqb, List, [], ◌∷◌, ◌++◌, length, get_or, take, sym, refl, ap, ◌∙◌, ap₂, inl, inr, mod-eq_of_lt, arith}
 use lib.Bits.{bit_or, bit_and, bit_xor, or_add_and, or_zero_l, xor_self, xor_assoc, xor_zero_l, xor_zero_r, xor_lt, and_le_l, and_le_r, and_mask, and_comm, and_zero_l}
 use Rattle.std.proofs.lemmas.Bool.{cases_eq, eq-eqb, ne_eqb, eqb-true, and_from, and_parts}
 use Rattle.std.proofs.lemmas.List.{take_more, length-take-le, ext_get_or}

@@ -1,4 +1,4 @@
-use Rattle.std.proofs.Common.{◌≡◌, ◌&&◌, eqb, get_or, sym, ap, ◌∙◌, ap₂, arith}
+use Rattle.std.proofs.Common.{◌&&◌, eqb, get_or, sym, ap, ◌∙◌, ap₂, arith}
 use Rattle.std.proofs.lemmas.List.{take_all}
 use Rattle.standards.specs.Lists.{same}
 use Rattle.select.proofs.Differences.{or_test, same_more, same_none}
