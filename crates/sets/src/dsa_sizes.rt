@@ -12,7 +12,8 @@ use std::marker::PhantomData;
 impl DsaSet {
     // Bits of a number of s1 and s2, from -eta to eta.
     pub fn eta_bits(self) -> Width<u32>
-        ensures { result.bits ≡ eta_bits (dsa_numbers self) }
+        ensures value { result.bits ≡ eta_bits (dsa_numbers self) }
+        ensures few { result.bits ≤ 4 }
     {
         let bits = if self.eta == 2 { 3 } else { 4 };
         Width {
@@ -23,7 +24,8 @@ impl DsaSet {
 
     // Bits of a number of z, above -gamma1 and up to gamma1.
     pub fn z_bits(self) -> Width<u32>
-        ensures { result.bits ≡ z_bits (dsa_numbers self) }
+        ensures value { result.bits ≡ z_bits (dsa_numbers self) }
+        ensures few { result.bits ≤ 20 }
     {
         Width {
             bits: self.gamma1_bits + 1,
@@ -33,7 +35,8 @@ impl DsaSet {
 
     // Bits of a number of w1.
     pub fn w1_bits(self) -> Width<u32>
-        ensures { result.bits ≡ w1_bits (dsa_numbers self) }
+        ensures value { result.bits ≡ w1_bits (dsa_numbers self) }
+        ensures few { result.bits ≤ 6 }
     {
         let bits = if self.gamma2 == 95232 { 6 } else { 4 };
         Width {

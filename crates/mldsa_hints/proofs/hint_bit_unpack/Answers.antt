@@ -14,7 +14,7 @@ pub returns-in_err-places-clause-good : goal.returns-in_err-places-clause-good
 returns-in_err-places-clause-good c =
     let p = dsa_numbers c.args.p in
     let s = c.args.sig.now in
-    let part = part_is p s _ _ c.c_length.ensures.value c.z_bits.ensures in
+    let part = part_is p s _ _ c.c_length.ensures.value c.z_bits.ensures.value in
     let none = part_none _ p.omega _ c.loop-i.begin _ _ c.get.result (part_long p s _ part c.requires.long) c.get.ensures.lookup c.in_err-places.ensures.ok_part (omega arith) in
     let bad = rise_stop p s _ part c.loop-i.i c.loop-i.begin (omega arith) c.loop-i.invariant.1 none in
     search (rules, bad)
@@ -23,7 +23,7 @@ pub returns-in_err-unpack_row-clause-good : goal.returns-in_err-unpack_row-claus
 returns-in_err-unpack_row-clause-good c =
     let p = dsa_numbers c.args.p in
     let s = c.args.sig.now in
-    let part = part_is p s _ _ c.c_length.ensures.value c.z_bits.ensures in
+    let part = part_is p s _ _ c.c_length.ensures.value c.z_bits.ensures.value in
     let is = part_some _ p.omega _ c.loop-i.begin _ _ c.get.result _ c.get.ensures.lookup c.in_ok-places.ensures.ok_part (omega arith) in
     let bad = rise_stop p s _ part c.loop-i.i c.loop-i.begin (omega arith) c.loop-i.invariant.1 (is.0 ∙ sym c.in_err-unpack_row.ensures.good) in
     search (rules, bad)
@@ -33,7 +33,7 @@ loop-i-preserved c =
     let p = dsa_numbers c.args.p in
     let s = c.args.sig.now in
     let i = c.loop-i.i in
-    let part = part_is p s _ _ c.c_length.ensures.value c.z_bits.ensures in
+    let part = part_is p s _ _ c.c_length.ensures.value c.z_bits.ensures.value in
     let is = part_some _ p.omega _ c.loop-i.begin _ _ c.get.result _ c.get.ensures.lookup c.in_ok-places.ensures.ok_part (omega arith) in
     let begins = c.loop-i.invariant.1 in
     let good = c.in_ok-unpack_row.ensures in
@@ -47,11 +47,11 @@ returns-then-all_zero c =
     let s = c.args.sig.now in
     let all : c.loop-i.i ≡ c.args.p.k = omega arith in
     record {
-      good = c.if-all_zero.ensures ∙ rise_last p s _ (part_is (dsa_numbers c.args.p) s _ _ c.c_length.ensures.value c.z_bits.ensures) c.loop-i.i c.loop-i.begin all c.args.p.fits.k_some c.loop-i.invariant.1 c.loop-i.invariant.2;
+      good = c.if-all_zero.ensures ∙ rise_last p s _ (part_is (dsa_numbers c.args.p) s _ _ c.c_length.ensures.value c.z_bits.ensures.value) c.loop-i.i c.loop-i.begin all c.args.p.fits.k_some c.loop-i.invariant.1 c.loop-i.invariant.2;
       rows = sym (take_all c.loop-i.i c.loop-i.hs (omega arith)) ∙ (c.loop-i.invariant.3 ∙ ap (λ n. tables n (hint_row p s)) all);
     }
 
 pub returns-else-all_zero-clause-good : goal.returns-else-all_zero-clause-good
 returns-else-all_zero-clause-good c =
     let s = c.args.sig.now in
-    c.if-all_zero.ensures ∙ rise_last (dsa_numbers c.args.p) s _ (part_is (dsa_numbers c.args.p) s _ _ c.c_length.ensures.value c.z_bits.ensures) c.loop-i.i c.loop-i.begin (omega arith) c.args.p.fits.k_some c.loop-i.invariant.1 c.loop-i.invariant.2
+    c.if-all_zero.ensures ∙ rise_last (dsa_numbers c.args.p) s _ (part_is (dsa_numbers c.args.p) s _ _ c.c_length.ensures.value c.z_bits.ensures.value) c.loop-i.i c.loop-i.begin (omega arith) c.args.p.fits.k_some c.loop-i.invariant.1 c.loop-i.invariant.2
