@@ -2,36 +2,36 @@
 // Loops go by index: the numbers may be secret, and this form lowers to plain code that reads the same places whatever they are.
 #![tactic(auto, using(crate::proofs::Numbers::number_loops))]
 
-ghost use Rattle.std.specs.Prelude.{◌≡◌, ◌*◌, ◌%◌, ◌<◌, T, length};
+ghost use Rattle.std.specs.Prelude.{◌≡◌, ◌*◌, ◌%◌, T, length};
 ghost use Rattle.standards.specs.Lists.{table, at, all_below};
 ghost use Rattle.standards.specs.MlDsaParts.{bit_pack, bit_unpack};
 
 use crate::Q;
-use packing::{Width, pack, unpack};
+use crate::interval::Interval;
+use packing::{pack, unpack};
 
-// 256 numbers of d bits, each b less what is packed, as 32 d bytes.
-pub fn bit_pack(d: Width<u32>, b: u32, f: &[u32; 256], out: &mut [u8])
-    requires long { length out.old ≡ 32 * d.bits }
-    requires below { (b < 8380417) × (T (all_below 8380417 f.now)) }
-    ensures { out.new ≡ bit_pack d.bits b f.now }
+// 256 numbers of d bits, each the interval's top less what is packed, as 32 d bytes.
+pub fn bit_pack(interval: Interval, f: &[u32; 256], out: &mut [u8])
+    requires long { length out.old ≡ 32 * interval.width.bits }
+    requires below { T (all_below 8380417 f.now) }
+    ensures { out.new ≡ bit_pack interval.width.bits interval.top f.now }
 {
     let mut g = [0u32; 256];
     for i in 0..256 {
-        g[i] = (b + (Q - f[i])) % Q;
+        g[i] = (interval.top + (Q - f[i])) % Q;
     }
-    pack(d, &g, out);
+    pack(interval.width, &g, out);
 }
 
 // The way back. What is unpacked has at most 20 bits, so it is below q.
-pub fn bit_unpack(d: Width<u32>, b: u32, bs: &[u8], f: &mut [u32; 256])
-    requires long { length bs.now ≡ 32 * d.bits }
-    requires below { b < 8380417 }
-    ensures value { f.new ≡ bit_unpack d.bits b bs.now }
+pub fn bit_unpack(interval: Interval, bs: &[u8], f: &mut [u32; 256])
+    requires { length bs.now ≡ 32 * interval.width.bits }
+    ensures value { f.new ≡ bit_unpack interval.width.bits interval.top bs.now }
     ensures below { T (all_below 8380417 f.new) }
 {
-    unpack(d, bs, f);
+    unpack(interval.width, bs, f);
     for i in 0..256 {
-        f[i] = (b + (Q - f[i])) % Q;
+        f[i] = (interval.top + (Q - f[i])) % Q;
     }
 }
 

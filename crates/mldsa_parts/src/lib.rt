@@ -6,5 +6,6 @@ pub const Q: u32 = 8380417;
 
 pub mod encoding;
 pub mod gamma2;
+pub mod interval;
 pub mod norms;
 pub mod rounding;

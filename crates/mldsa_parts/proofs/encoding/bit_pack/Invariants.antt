@@ -4,4 +4,4 @@ use Rattle.algebra.proofs.Words.{Filled}
 use Rattle.mldsa_parts.proofs.encoding.bit_pack.Given as goal
 
 abbrev pub invariant-loop-i : goal.invariant-loop-i
-invariant-loop-i l = Filled (λ k. (l.b + (8380417 - at l.f k)) % 8380417) l.initial.g l.i l.g
+invariant-loop-i l = Filled (λ k. (l.interval.top + (8380417 - at l.f k)) % 8380417) l.initial.g l.i l.g

@@ -9,9 +9,9 @@ use Rattle.mldsa_parts.proofs.encoding.bit_unpack.Goals as goal
 
 pub overflow_sub-f : goal.overflow_sub-f
 overflow_sub-f c =
-    let d = c.args.d.bits in
+    let d = c.args.interval.width.bits in
     let small : T (all_below 8380417 c.unpack.new.f) =
-    subst (λ f. T (all_below 8380417 f)) (sym c.unpack.ensures) (below_weaker (2 ^ d) 8380417 _ (omega (arith, pow_mono {i = d} {j = 20} (dsa_few d c.args.d.known))) (below_unpack d 256 c.args.bs.now)) in
+    subst (λ f. T (all_below 8380417 f)) (sym c.unpack.ensures) (below_weaker (2 ^ d) 8380417 _ (omega (arith, pow_mono {i = d} {j = 20} (dsa_few d c.args.interval.width.known))) (below_unpack d 256 c.args.bs.now)) in
     omega (arith, filled_below 8380417 _ c.unpack.new.f c.loop-i.i c.loop-i.f (lit< tt) small c.loop-i.invariant c.loop-i.i (omega arith))
 
 pub returns-clause-below : goal.returns-clause-below
