@@ -41,8 +41,9 @@ pub at_most_one : (b : Bool) → bool_byte (not b) ≤ 1
 at_most_one true = omega arith
 at_most_one false = omega arith
 
-pub count_next : (row : List ℕ) (i n all : ℕ) → i < length row → n + length (places i (drop i row)) ≡ all → (n + bool_byte (not (eqb (get_or row i 0) 0))) + length (places (i + 1) (drop (i + 1) row)) ≡ all
-count_next row i n all h e =
+pub count_next : (row : List ℕ) (i n m all : ℕ) → i < length row → m ≡ bool_byte (not (eqb (get_or row i 0) 0)) → n + length (places i (drop i row)) ≡ all →
+    (n + m) + length (places (i + 1) (drop (i + 1) row)) ≡ all
+count_next row i n m all h is e =
     let x = get_or row i 0 in
     let rest = places (i + 1) (drop (i + 1) row) in
     let split : length (places i (drop i row)) ≡ length (places i (x ∷ [])) + length rest = ap length (places_next i row h) ∙ length-append (places i (x ∷ [])) rest in

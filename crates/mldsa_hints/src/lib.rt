@@ -23,7 +23,7 @@ fn row_count(row: &[u8; 256]) -> usize
 {
     let mut n = 0;
     for i in 0..256 {
-        n += (row[i] != 0) as usize;
+        n += usize::from(row[i] != 0);
     }
     n
 }
@@ -109,7 +109,7 @@ fn unpack_row(places: &[u8], row: &mut [u8; 256]) -> Result<(), Malformed>
     }
     *row = [0u8; 256];
     for x in places {
-        row[*x as usize] = 1;
+        row[usize::from(*x)] = 1;
     }
     Ok(())
 }
@@ -124,7 +124,7 @@ pub fn hint_bit_unpack(p: DsaSet, sig: &[u8], hs: &mut [[u8; 256]]) -> Result<()
     let part = &sig[p.c_length() + 32 * p.z_bits().bits * p.l..];
     let mut begin = 0;
     for (i, row) in hs.iter_mut().enumerate() {
-        let end = part[p.omega + i] as usize;
+        let end = usize::from(part[p.omega + i]);
         let places = part[..p.omega].get(begin..end).ok_or(Malformed)?;
         unpack_row(places, row)?;
         begin = end;

@@ -12,7 +12,7 @@ fn magnitude(x: u32) -> u32
     requires { x < 8380417 }
     ensures { result ≡ magnitude_of 8380417 x }
 {
-    let over = (x > 4190208) as u32;
+    let over = u32::from(x > 4190208);
     over * (Q - x) + (1 - over) * x
 }
 

@@ -63,7 +63,7 @@ fn make_hint_number(gamma2: Gamma2, v: u32, ct: u32) -> u8
     requires { (v < 8380417) × (ct < 8380417) }
     ensures { result ≡ make_hint gamma2.value ((0 + (8380417 - ct % 8380417)) % 8380417) ((v + ct) % 8380417) }
 {
-    (high_number(gamma2, (v + ct) % Q) != high_number(gamma2, v)) as u8
+    u8::from(high_number(gamma2, (v + ct) % Q) != high_number(gamma2, v))
 }
 
 // The high bits go one up, or one down (m - 1 up), modulo their number m, a constant in each of the two copies.
@@ -74,9 +74,9 @@ fn use_hint_by<const G: u32>(b: u8, r: u32) -> u32
 {
     let m = (Q - 1) / (2 * G);
     let low = low_number(Gamma2 { value: G }, r);
-    let up = (low > 0) as u32 * (2 * low <= Q) as u32;
+    let up = u32::from(low > 0) * u32::from(2 * low <= Q);
     let step = up + (1 - up) * (m - 1);
-    (high_by::<G>(r) + (b != 0) as u32 * step) % m
+    (high_by::<G>(r) + u32::from(b != 0) * step) % m
 }
 
 // The same choice of a constant as for the high bits.

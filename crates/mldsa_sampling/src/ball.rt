@@ -22,9 +22,9 @@ pub fn sample_in_ball<H: Hash>(p: DsaSet, c: &[u8], f: &mut [u32; 256])
     f.fill(0);
     for t in 0..p.tau {
         let i = 256 - p.tau + t;
-        let j = places.draw_place(i) as usize;
+        let j = usize::from(places.draw_place(i));
         let sign = (signs[t / 8] >> (t % 8)) % 2;
         f[i] = f[j];
-        f[j] = 1 + sign as u32 * (Q - 2);
+        f[j] = 1 + u32::from(sign) * (Q - 2);
     }
 }

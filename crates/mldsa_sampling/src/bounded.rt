@@ -16,7 +16,7 @@ fn coeff_from_half_byte(eta: usize, z: u8) -> u32
     requires { z < 16 }
     ensures { result ≡ coeff_from_half_byte eta z }
 {
-    let z = z as u32;
+    let z = u32::from(z);
     if eta == 2 {
         (2 + (Q - z % 5)) % Q
     } else {

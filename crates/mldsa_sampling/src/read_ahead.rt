@@ -62,7 +62,7 @@ impl<R: Reader> ReadAhead<R> {
         // The count bounds the loop. It has a name for the proof, which tells by it how many bytes were looked at.
         for _seen in 0..TRIES {
             let b = self.next_byte();
-            if b as usize <= i {
+            if usize::from(b) <= i {
                 return b;
             }
         }

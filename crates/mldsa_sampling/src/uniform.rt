@@ -59,7 +59,9 @@ impl Candidates<312> for BelowQ {
 
     #[tactic(auto, unfolding(algebra::specs::Draws::accepted))]
     fn offer(self, group: &[u8], row: &mut Row<u32, 312>) {
-        let (a, b, c) = (group[0] as u32, group[1] as u32, group[2] as u32);
+        let a = u32::from(group[0]);
+        let b = u32::from(group[1]);
+        let c = u32::from(group[2]);
         let x = a + 256 * b + 65536 * (c % 128);
         row.offer(x, x < Q);
     }

@@ -15,7 +15,8 @@ returns-in_err-places-clause-good c =
     let p = dsa_numbers c.args.p in
     let s = c.args.sig.now in
     let part = part_is p s _ _ c.c_length.ensures.value c.z_bits.ensures.value in
-    let none = part_none _ p.omega _ c.loop-i.begin _ _ c.get.result (part_long p s _ part c.requires.long) c.get.ensures.lookup c.in_err-places.ensures.ok_part (omega arith) in
+    let lookup = rw c.from-end.ensures at c.get.ensures.lookup in
+    let none = part_none _ p.omega _ c.loop-i.begin _ _ c.get.result (part_long p s _ part c.requires.long) lookup c.in_err-places.ensures.ok_part (omega arith) in
     let bad = rise_stop p s _ part c.loop-i.i c.loop-i.begin (omega arith) c.loop-i.invariant.1 none in
     search (rules, bad)
 
@@ -24,7 +25,8 @@ returns-in_err-unpack_row-clause-good c =
     let p = dsa_numbers c.args.p in
     let s = c.args.sig.now in
     let part = part_is p s _ _ c.c_length.ensures.value c.z_bits.ensures.value in
-    let is = part_some _ p.omega _ c.loop-i.begin _ _ c.get.result _ c.get.ensures.lookup c.in_ok-places.ensures.ok_part (omega arith) in
+    let lookup = rw c.from-end.ensures at c.get.ensures.lookup in
+    let is = part_some _ p.omega _ c.loop-i.begin _ _ c.get.result _ lookup c.in_ok-places.ensures.ok_part (omega arith) in
     let bad = rise_stop p s _ part c.loop-i.i c.loop-i.begin (omega arith) c.loop-i.invariant.1 (is.0 ∙ sym c.in_err-unpack_row.ensures.good) in
     search (rules, bad)
 
@@ -34,12 +36,13 @@ loop-i-preserved c =
     let s = c.args.sig.now in
     let i = c.loop-i.i in
     let part = part_is p s _ _ c.c_length.ensures.value c.z_bits.ensures.value in
-    let is = part_some _ p.omega _ c.loop-i.begin _ _ c.get.result _ c.get.ensures.lookup c.in_ok-places.ensures.ok_part (omega arith) in
+    let lookup = rw c.from-end.ensures at c.get.ensures.lookup in
+    let is = part_some _ p.omega _ c.loop-i.begin _ _ c.get.result _ lookup c.in_ok-places.ensures.ok_part (omega arith) in
     let begins = c.loop-i.invariant.1 in
     let good = c.in_ok-unpack_row.ensures in
     let next = rise_next p s _ part i c.loop-i.begin begins (is.0 ∙ sym good.good) c.loop-i.invariant.2 in
     let row = good.row ∙ (ap (λ xs. marked xs zero_p) is.1 ∙ row_marked p s _ part i c.loop-i.begin begins) in
-    (next.0, next.1, next.2, tables_next (hint_row p s) c.loop-i.hs i c.unpack_row.new.row (omega arith) row c.loop-i.invariant.3)
+    (omega (arith, next.0), c.from-end.ensures ∙ next.1, next.2, tables_next (hint_row p s) c.loop-i.hs i c.unpack_row.new.row (omega arith) row c.loop-i.invariant.3)
 
 pub returns-then-all_zero : goal.returns-then-all_zero
 returns-then-all_zero c =

@@ -10,7 +10,7 @@ loop-x-init c = (refl, ap (marked _) (zero_row 256))
 
 pub loop-x-preserved : goal.loop-x-preserved
 loop-x-preserved c =
-    (length-set _ _ _ ∙ c.loop-x.invariant.0, marks_next _ c.loop-x.row _ c.loop-x.x-index _ (omega arith) refl c.loop-x.invariant.1)
+    (length-set _ _ _ ∙ c.loop-x.invariant.0, marks_next _ c.loop-x.row _ c.loop-x.x-index _ (omega arith) c.from.ensures c.loop-x.invariant.1)
 
 pub returns-clause-row : goal.returns-clause-row
 returns-clause-row c = marks_last _ c.loop-x.row _ c.loop-x.x-index (omega arith) c.loop-x.invariant.1

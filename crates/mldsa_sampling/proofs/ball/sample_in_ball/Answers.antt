@@ -36,8 +36,8 @@ loop-t-preserved g c =
     let r = to_come g.H.Reader256.Reader.rest c.loop-t.places in
     record {
       long = simp (length-set, length-set) c.loop-t.invariant.long;
-      left = step_next s r _ c.args.p.tau t _ c.draw_place-j.result _ c.loop-t.f _ (omega arith) (omega (arith, c.args.p.fits.tau_few)) c.loop-t.invariant.left c.draw_place-j.ensures.byte c.draw_place-j.ensures.onward
-          (sign_is s c.squeeze.new.out t (omega (arith, c.args.p.fits.tau_few)) (c.squeeze.ensures.bytes ∙ ap (table 8) start));
+      left = step_next s r _ c.args.p.tau t _ c.from-j.result _ c.loop-t.f _ (omega arith) (omega (arith, c.args.p.fits.tau_few)) c.loop-t.invariant.left (c.from-j.ensures ∙ c.draw_place.ensures.byte) c.draw_place.ensures.onward
+          (c.from.ensures ∙ sign_is s c.squeeze.new.out t (omega (arith, c.args.p.fits.tau_few)) (c.squeeze.ensures.bytes ∙ ap (table 8) start));
     }
 
 pub returns : goal.returns

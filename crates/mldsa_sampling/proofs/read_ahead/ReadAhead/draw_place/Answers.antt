@@ -12,14 +12,14 @@ loop-seen-preserved g c =
     let b = c.next_byte-b.result in
     record {
       onward = next_onward s r (to_come g.R.Reader.rest c.next_byte-b.new.self) seen c.loop-seen.invariant.onward c.next_byte-b.ensures.onward;
-      none_yet = first_next s 1024 seen c.args.i b (first_at_most 1024 0 c.args.i s) (omega arith) (next_read s r seen b c.loop-seen.invariant.onward c.next_byte-b.ensures.byte) c.if-b-i.false c.loop-seen.invariant.none_yet;
+      none_yet = first_next s 1024 seen c.args.i b (first_at_most 1024 0 c.args.i s) (omega arith) (next_read s r seen b c.loop-seen.invariant.onward c.next_byte-b.ensures.byte) (omega arith) c.loop-seen.invariant.none_yet;
     }
 
-pub returns-then-b-i : goal.returns-then-b-i
-returns-then-b-i g c =
+pub returns-then-from-i : goal.returns-then-from-i
+returns-then-from-i g c =
     let s = to_come g.R.Reader.rest c.args.self.now in
     let found = place_found s (to_come g.R.Reader.rest c.loop-seen.self) (to_come g.R.Reader.rest c.next_byte-b.new.self) 1024 c.loop-seen._seen c.args.i c.next_byte-b.result (first_at_most 1024 0 c.args.i s)
-    c.loop-seen.invariant.onward c.loop-seen.invariant.none_yet c.next_byte-b.ensures.byte c.next_byte-b.ensures.onward (inl c.if-b-i.true) in
+    c.loop-seen.invariant.onward c.loop-seen.invariant.none_yet c.next_byte-b.ensures.byte c.next_byte-b.ensures.onward (inl (omega arith)) in
     record { byte = found.0; onward = found.1 }
 
 pub returns : goal.returns
