@@ -1,5 +1,6 @@
 -- Places read and marked, row by row.
 use Rattle.std.proofs.Common.{◌≡◌, ℕ, zero, suc, ◌+◌, ◌-◌, ◌*◌, ◌/◌, ◌<◌, ◌≤◌, Bool, true, false, ◌&&◌, ltb, eqb, List, [], ◌∷◌, ◌++◌, Option, None, Some, length, get_or, take, drop, set, sym, refl, ap, ◌∙◌, subst, ap₂, inl, inr, add-one, arith}
+use Rattle.std.proofs.Math.Bool.{true-and}
 use Rattle.std.proofs.lemmas.List.{take_rest, length-drop, drop-take, take-take, length-take, take_more_set, at_drop_more, at_drop_all}
 use Rattle.std.specs.List.{PartBy, AllAdjacentBelow, IsAllAdjacentAnswer, list_all}
 use Rattle.std.proofs.lemmas.Bool.{lt-leb, le-leb, leb-true, and_parts, and_from, and_left, and_right, cases_eq}
@@ -9,11 +10,8 @@ use Rattle.standards.specs.Ring.{zero_p}
 use Rattle.standards.specs.MlDsaParts.{DsaSet, z_bits}
 use Rattle.standards.specs.MlDsa.{sig_length, hint_part, hint_end, hint_begin, rising, hints_rise, hint_padding_zero, marked, hint_row}
 use Rattle.mldsa_laws.proofs.HintCounts.{begin_later, begin_next}
+use Rattle.mldsa_laws.proofs.Places.{marked_more, marked_none}
 use Rattle.mldsa_hints.specs.Rows.{between, row_rises}
-
-true_and : (b : Bool) → true && b ≡ b
-true_and true = refl
-true_and false = refl
 
 -- ---- one row
 pair_behind : (b : Bool) (x : ℕ) (xs : List ℕ) (k d : ℕ) → b ≡ ltb (get_or (x ∷ xs) (suc k) d) (get_or (x ∷ xs) (suc k + 1) d) → b ≡ ltb (get_or xs k d) (get_or xs (k + 1) d)
@@ -39,14 +37,6 @@ falling_pair (x ∷ y ∷ ys) (suc k) l h = sym (and_right _ _ (sym (falling_pai
 pub rising-sorted : (xs : List ℕ) (r : Bool) → IsAllAdjacentAnswer (λ x y b. b ≡ ltb x y) xs r → r ≡ rising xs
 rising-sorted xs true h = rising-pairs xs h
 rising-sorted xs false h = falling_pair xs h.0 h.1 h.2
-
-marked_more : (x : ℕ) (xs c : List ℕ) → marked (x ∷ xs) c ≡ marked xs (set c x 1)
-unfolding marked
-marked_more x xs c = refl
-
-marked_none : (c : List ℕ) → marked [] c ≡ c
-unfolding marked
-marked_none c = refl
 
 -- the places from i on are left to mark, of which x is the first; all is what is there in the end
 pub marks_next : (xs c all : List ℕ) (i x : ℕ) → i < length xs → x ≡ get_or xs i 0 → marked (drop i xs) c ≡ all → marked (drop (i + 1) xs) (set c x 1) ≡ all
@@ -81,7 +71,7 @@ part_some now om n a e part r x got some few =
     let w = (subst (PartBy now (take n part) a e) some got).0 in
     let last : e ≤ n = omega (arith, w.1, length-take n part) in
     let is = w.2 ∙ between_part n a e part w.0 last in (
-      ap (λ b. b && rising (between a e part)) (and_from _ _ (le-leb a e w.0) (le-leb e om (omega arith))) ∙ (true_and _ ∙ ap rising (sym is)),
+      ap (λ b. b && rising (between a e part)) (and_from _ _ (le-leb a e w.0) (le-leb e om (omega arith))) ∙ (true-and _ ∙ ap rising (sym is)),
       is,
     )
 
@@ -148,4 +138,4 @@ module _ (p : DsaSet) (s part : List ℕ) (is : part ≡ hint_part p s) where
   pub rise_last : (i a : ℕ) → i ≡ p.k → 0 < p.k → a ≡ hint_begin p s i → hints_rise p s i ≡ true → all_below 1 (between a p.omega part) ≡ hints_rise p s p.k && hint_padding_zero p s
   rise_last i a e pos begins ok =
       ap₂ (λ b x. all_below 1 (between x p.omega b)) is (begins ∙ (ap (hint_begin p s) e ∙ begin_later p s p.k pos)) ∙
-      (sym (true_and (hint_padding_zero p s)) ∙ ap (λ t. t && hint_padding_zero p s) (sym (ap (hints_rise p s) (sym e) ∙ ok)))
+      (sym (true-and (hint_padding_zero p s)) ∙ ap (λ t. t && hint_padding_zero p s) (sym (ap (hints_rise p s) (sym e) ∙ ok)))

@@ -1,10 +1,11 @@
 -- Places counted and written, row by row.
-use Rattle.std.proofs.Common.{◌≡◌, ℕ, zero, suc, ◌+◌, ◌-◌, ◌<◌, ◌≤◌, Bool, true, false, cond, not, eqb, ◌≢◌, List, [], ◌∷◌, ◌++◌, length, get_or, take, drop, set, replicate, sym, refl, ap, ◌∙◌, ap₂, arith}
+use Rattle.std.proofs.Common.{◌≡◌, ℕ, ◌+◌, ◌-◌, ◌<◌, ◌≤◌, Bool, true, false, cond, not, eqb, ◌≢◌, List, [], ◌∷◌, ◌++◌, length, get_or, take, drop, set, replicate, sym, refl, ap, ◌∙◌, ap₂, arith}
 use mir.Val.{bool_byte}
 use Rattle.std.proofs.lemmas.List.{append-nil, append_assoc, length-append, length-take-le, length-drop, drop-drop, drop-set-add, take-set-le, take_more_set, take_all, at_drop_more, at_drop_all}
 use Rattle.std.proofs.lemmas.Bool.{cond_both, cond-true, cond-false, ne_eqb, eq-eqb}
-use Rattle.standards.specs.Lists.{from, table}
+use Rattle.standards.specs.Lists.{table}
 use Rattle.standards.specs.MlDsaParts.{places, all_places, row_ends}
+use Rattle.mldsa_laws.proofs.Places.{places_none, places-append, noughts}
 
 -- ---- one place
 place_is : (i b : ℕ) → places i (b ∷ []) ≡ cond (eqb b 0) [] (i ∷ [])
@@ -17,21 +18,12 @@ one_place i b h = place_is i b ∙ cond-false (eqb b 0) [] (i ∷ []) (ne_eqb b 
 pub no_place : (i b : ℕ) → b ≡ 0 → places i (b ∷ []) ≡ []
 no_place i b h = place_is i b ∙ cond-true (eqb b 0) [] (i ∷ []) (eq-eqb b 0 h)
 
-places_none : (i : ℕ) → places i [] ≡ []
-unfolding places
-places_none i = refl
-
-places_more : (i x : ℕ) (xs : List ℕ) → places i (x ∷ xs) ≡ places i (x ∷ []) ++ places (i + 1) xs
-unfolding places
-places_more i x xs =
-    cond_both (eqb x 0) [] (i ∷ []) (λ m. cond (eqb x 0) (places (i + 1) xs) (i ∷ places (i + 1) xs) ≡ m ++ places (i + 1) xs) (λ e. cond-true _ _ _ e) (λ e. cond-false _ _ _ e)
-
 pub length_place : (i b : ℕ) → length (places i (b ∷ [])) ≡ bool_byte (not (eqb b 0))
 length_place i b =
     ap length (place_is i b) ∙ cond_both (eqb b 0) [] (i ∷ []) (λ m. length m ≡ bool_byte (not (eqb b 0))) (λ e. ap (λ t. bool_byte (not t)) (sym e)) (λ e. ap (λ t. bool_byte (not t)) (sym e))
 
 places_next : (i : ℕ) (row : List ℕ) → i < length row → places i (drop i row) ≡ places i (get_or row i 0 ∷ []) ++ places (i + 1) (drop (i + 1) row)
-places_next i row h = at_drop_more (places i) row i 0 h ∙ places_more i (get_or row i 0) (drop (i + 1) row)
+places_next i row h = at_drop_more (places i) row i 0 h ∙ places-append i (get_or row i 0 ∷ []) (drop (i + 1) row)
 
 places_past : (i : ℕ) (row : List ℕ) → length row ≤ i → places i (drop i row) ≡ []
 places_past i row h = at_drop_all (places i) row i h ∙ places_none i
@@ -138,14 +130,6 @@ rows_ends hs om i n out h long e =
     let all : length (drop om out) ≤ i = simp length-drop (omega arith) in
     sym (take_all i (drop om out) all) ∙ (sym (append-nil (take i (drop om out))) ∙ (ap (λ a. take i (drop om out) ++ a) (sym (at_drop_all (row_ends n) hs i h ∙ ends_none n)) ∙ e))
 
-noughts : (i n : ℕ) → replicate n 0 ≡ from (λ j. 0) i n
-unfolding from
-noughts i zero = refl
-noughts i (suc n) = ap (λ xs. 0 ∷ xs) (noughts (i + 1) n)
-
-pub zero_row : (n : ℕ) → replicate n 0 ≡ table n (λ i. 0)
-zero_row n = noughts 0 n
-
 -- noughts from n to om
 pub rows_last : (hs : List (List ℕ)) (om i n : ℕ) (out : List ℕ) → length hs ≤ i → n ≤ om → length out ≡ om + length hs →
     take n out ++ all_places (drop i hs) ≡ all_places hs → take i (drop om out) ++ row_ends n (drop i hs) ≡ row_ends 0 hs →
@@ -154,6 +138,6 @@ rows_last hs om i n out l h long e d =
     let p = rows-places hs i n out l e in
     let at : n + (om - n) ≡ om = omega arith in
     let len : n ≡ length (all_places hs) = sym (length-take-le n out (omega arith)) ∙ ap length p in
-    let zeros : replicate (om - n) 0 ≡ table (om - length (all_places hs)) (λ i. 0) = ap (λ k. replicate (om - k) 0) len ∙ zero_row (om - length (all_places hs)) in
+    let zeros : replicate (om - n) 0 ≡ table (om - length (all_places hs)) (λ i. 0) = ap (λ k. replicate (om - k) 0) len ∙ sym (noughts 0 (om - length (all_places hs))) in
     ap (λ a. take n out ++ (replicate (om - n) 0 ++ a)) (drop-drop (om - n) n out ∙ (ap (λ j. drop j out) at ∙ rows_ends hs om i n out l long d)) ∙
     (ap₂ (λ a b. a ++ (b ++ row_ends 0 hs)) p zeros ∙ sym (append_assoc (all_places hs) _ (row_ends 0 hs)))

@@ -15,11 +15,11 @@ places_mark : (i b : ℕ) (xs : List ℕ) → places i (suc b ∷ xs) ≡ i ∷ 
 unfolding places
 places_mark i b xs = cond-false (eqb (suc b) 0) (places (i + 1) xs) (i ∷ places (i + 1) xs) (ne_eqb (suc b) 0 (λ e. omega arith))
 
-places_none : (i : ℕ) → places i [] ≡ []
+pub places_none : (i : ℕ) → places i [] ≡ []
 unfolding places
 places_none i = refl
 
-places-append : (i : ℕ) (a b : List ℕ) → places i (a ++ b) ≡ places i a ++ places (i + length a) b
+pub places-append : (i : ℕ) (a b : List ℕ) → places i (a ++ b) ≡ places i a ++ places (i + length a) b
 places-append i [] b = ap (λ j. places j b) (sym (add-zero i)) ∙ ap (λ xs. xs ++ places (i + 0) b) (sym (places_none i))
 places-append i (zero ∷ a) b =
     let e : i + 1 + length a ≡ i + suc (length a) = omega arith in
@@ -61,15 +61,15 @@ mark p n m x e =
     ∙ (set_at (p ++ replicate n 0) 0 (replicate m 0) 1 x len
     ∙ sym (append_assoc (p ++ replicate n 0) (1 ∷ []) (replicate m 0))))
 
-marked_more : (x : ℕ) (xs c : List ℕ) → marked (x ∷ xs) c ≡ marked xs (set c x 1)
+pub marked_more : (x : ℕ) (xs c : List ℕ) → marked (x ∷ xs) c ≡ marked xs (set c x 1)
 unfolding marked
 marked_more x xs c = refl
 
-marked_none : (c : List ℕ) → marked [] c ≡ c
+pub marked_none : (c : List ℕ) → marked [] c ≡ c
 unfolding marked
 marked_none c = refl
 
-noughts : (i n : ℕ) → from (λ j. 0) i n ≡ replicate n 0
+pub noughts : (i n : ℕ) → from (λ j. 0) i n ≡ replicate n 0
 unfolding from
 noughts i zero = refl
 noughts i (suc n) = ap (λ (xs : List ℕ). 0 ∷ xs) (noughts (i + 1) n)

@@ -1,12 +1,12 @@
-use Rattle.std.proofs.Common.{refl, ap, ◌∙◌, arith}
+use Rattle.std.proofs.Common.{sym, refl, ap, ◌∙◌, arith}
 use Rattle.std.proofs.lemmas.List.{length-set}
 use Rattle.standards.specs.MlDsa.{marked}
-use Rattle.mldsa_hints.proofs.PlacesOut.{zero_row}
+use Rattle.mldsa_laws.proofs.Places.{noughts}
 use Rattle.mldsa_hints.proofs.PlacesIn.{marks_next, marks_last}
 use Rattle.mldsa_hints.proofs.unpack_row.Goals as goal
 
 pub loop-x-init : goal.loop-x-init
-loop-x-init c = (refl, ap (marked _) (zero_row 256))
+loop-x-init c = (refl, ap (marked _) (sym (noughts 0 256)))
 
 pub loop-x-preserved : goal.loop-x-preserved
 loop-x-preserved c =
