@@ -1,7 +1,9 @@
 -- Places counted and written, row by row.
 use Rattle.std.proofs.Common.{◌≡◌, ℕ, ◌+◌, ◌-◌, ◌<◌, ◌≤◌, Bool, true, false, cond, not, eqb, ◌≢◌, List, [], ◌∷◌, ◌++◌, length, get_or, take, drop, set, replicate, sym, refl, ap, ◌∙◌, ap₂, arith}
 use mir.Val.{bool_byte}
-use Rattle.std.proofs.lemmas.List.{append-nil, append_assoc, length-append, length-take-le, length-drop, drop-drop, drop-set-add, take-set-le, take_more_set, take_all, at_drop_more, at_drop_all}
+use borrow.Rule.Slice.PartMut.{put_mid}
+use Rattle.std.proofs.lemmas.Slice.{take-put_mid, drop-put_mid}
+use Rattle.std.proofs.lemmas.List.{append-nil, append_assoc, length-append, length-take-le, length-drop, drop-drop, drop-set-add, take-set-le, take_more_set, take_all, take-take, take_at, at_drop_more, at_drop_all}
 use Rattle.std.proofs.lemmas.Bool.{cond_both, cond-true, cond-false, ne_eqb, eq-eqb}
 use Rattle.standards.specs.Lists.{table}
 use Rattle.standards.specs.MlDsaParts.{places, all_places, row_ends}
@@ -51,13 +53,24 @@ row_next row out out1 i n n1 goal h t e =
     ap (λ a. a ++ places (i + 1) (drop (i + 1) row)) t ∙
     (append_assoc (take n out) (places i (get_or row i 0 ∷ [])) (places (i + 1) (drop (i + 1) row)) ∙ (ap (λ a. take n out ++ a) (sym (places_next i row h)) ∙ e))
 
--- there is room for the next place
-pub row_room : (row out : List ℕ) (i n : ℕ) (goal : List ℕ) → i < length row → n ≤ length out → take n out ++ places i (drop i row) ≡ goal → length goal ≤ length out →
-    n + length (places i (get_or row i 0 ∷ [])) ≤ length out
-row_room row out i n goal h l e g =
+-- there is room for the place of a one
+pub place_room : (row out : List ℕ) (i n : ℕ) (goal : List ℕ) → i < length row → n ≤ length out → get_or row i 0 ≢ 0 → take n out ++ places i (drop i row) ≡ goal → length goal ≤ length out → n < length out
+place_room row out i n goal h l one e g =
     let x = places i (get_or row i 0 ∷ []) in
     let rest = places (i + 1) (drop (i + 1) row) in
-    omega (arith, length-append (take n out) (places i (drop i row)), ap length (places_next i row h), length-append x rest, length-take-le n out l, ap length e)
+    omega (arith, ap length (one_place i (get_or row i 0) one), length-append (take n out) (places i (drop i row)), ap length (places_next i row h), length-append x rest, length-take-le n out l, ap length e)
+
+-- a one: its place is written
+pub place_put : (row out : List ℕ) (i n : ℕ) (goal : List ℕ) → i < length row → n < length out → get_or row i 0 ≢ 0 → take n out ++ places i (drop i row) ≡ goal →
+    take (n + 1) (set out n i) ++ places (i + 1) (drop (i + 1) row) ≡ goal
+place_put row out i n goal h room one e =
+    row_next row out (set out n i) i n (n + 1) goal h (take_more_set out n i room ∙ ap (λ l. take n out ++ l) (sym (one_place i _ one))) e
+
+-- a nought: nothing is
+pub place_skip : (row out : List ℕ) (i n : ℕ) (goal : List ℕ) → i < length row → get_or row i 0 ≡ 0 → take n out ++ places i (drop i row) ≡ goal →
+    take n out ++ places (i + 1) (drop (i + 1) row) ≡ goal
+place_skip row out i n goal h none e =
+    row_next row out out i n n goal h (sym (ap (λ l. take n out ++ l) (no_place i _ none) ∙ append-nil _)) e
 
 pub row_last : (row out : List ℕ) (i n : ℕ) (goal : List ℕ) → length row ≤ i → take n out ++ places i (drop i row) ≡ goal → take n out ≡ goal
 row_last row out i n goal h e = sym (append-nil (take n out)) ∙ (ap (λ a. take n out ++ a) (sym (places_past i row h)) ∙ e)
@@ -104,15 +117,28 @@ pub rows_room : (hs : List (List ℕ)) (om i n : ℕ) (out : List ℕ) → i < l
 rows_room hs om i n out h l few e =
     omega (arith, ap length (all_next i hs h), length-append (places 0 (get_or hs i [])) (all_places (drop (i + 1) hs)), length-append (take n out) (all_places (drop i hs)), length-take-le n out l, ap length e)
 
+-- the places of a row go in at n, in front of what stood there up to om
+pub places_put : (row out part tail : List ℕ) (om n m : ℕ) → n ≤ om → om ≤ length out → m ≡ length (places 0 row) → part ≡ places 0 row ++ tail → length part ≡ om - n →
+    (take (n + m) (put_mid n (om - n) out part) ≡ take n out ++ places 0 row) × (drop om (put_mid n (om - n) out part) ≡ drop om out)
+places_put row out part tail om n m h room count is long =
+    let ps = places 0 row in
+    let out1 = put_mid n (om - n) out part in
+    let le : n + m ≤ om = omega (arith, ap length is, length-append ps tail) in
+    let all : take om out1 ≡ (take n out ++ ps) ++ tail =
+    take-put_mid n (om - n) out part om (omega arith) (omega arith) ∙ (ap (λ xs. take n out ++ xs) is ∙ sym (append_assoc (take n out) ps tail)) in
+    let len : length (take n out ++ ps) ≡ n + m = length-append (take n out) ps ∙ omega (arith, length-take-le n out (omega arith)) in (
+      sym (take-take (n + m) om out1 le) ∙ (ap (take (n + m)) all ∙ take_at (take n out ++ ps) tail (n + m) len),
+      drop-put_mid n (om - n) out part om (omega arith) (omega arith) long,
+    )
+
 -- the places of row i go in from n to n1, and n1 goes in as its end
 pub rows_next : (hs : List (List ℕ)) (om i n n1 : ℕ) (out out1 : List ℕ) → i < length hs → length out ≡ om + length hs → n1 ≤ om →
-    n1 ≡ n + length (places 0 (get_or hs i [])) → take n1 out1 ≡ take n out ++ places 0 (get_or hs i []) → drop n1 out1 ≡ drop n1 out →
+    n1 ≡ n + length (places 0 (get_or hs i [])) → take n1 out1 ≡ take n out ++ places 0 (get_or hs i []) → drop om out1 ≡ drop om out →
     take n out ++ all_places (drop i hs) ≡ all_places hs → take i (drop om out) ++ row_ends n (drop i hs) ≡ row_ends 0 hs →
     (take n1 (set out1 (om + i) n1) ++ all_places (drop (i + 1) hs) ≡ all_places hs) × (take (i + 1) (drop om (set out1 (om + i) n1)) ++ row_ends n1 (drop (i + 1) hs) ≡ row_ends 0 hs)
-rows_next hs om i n n1 out out1 l long fits is front back e d =
+rows_next hs om i n n1 out out1 l long fits is front back-drop e d =
     let row = get_or hs i [] in
     let tail = drop (i + 1) hs in
-    let back-drop : drop om out1 ≡ drop om out = drop-later n1 om out1 out fits back in
     let le : n1 ≤ om + i = omega arith in
     let in-range : i < length (drop om out) = simp length-drop (omega arith) in (
       ap (λ a. a ++ all_places tail) (take-set-le n1 out1 (om + i) n1 le ∙ front) ∙ (append_assoc (take n out) (places 0 row) (all_places tail) ∙ (ap (λ a. take n out ++ a) (sym (all_next i hs l)) ∙ e)),

@@ -4,7 +4,7 @@
 // What is packed or unpacked is public.
 #![tactic(auto)]
 
-ghost use Rattle.std.specs.Prelude.{◌≡◌, ◌+◌, ◌≤◌, ◌&&◌, [], ◌∷◌, ◌++◌, length, take, drop, is_ok, OnOk};
+ghost use Rattle.std.specs.Prelude.{◌≡◌, ◌+◌, ◌≤◌, ◌&&◌, ◌++◌, length, drop, is_ok, OnOk};
 ghost use Rattle.standards.specs.Lists.{tables, all_below};
 ghost use Rattle.standards.specs.Ring.{zero_p};
 ghost use Rattle.standards.specs.MlDsaParts.{places, hint_count, hint_bit_pack};
@@ -40,38 +40,23 @@ pub fn hint_count(hs: &[[u8; 256]]) -> usize
     n
 }
 
-// Writes the place i at n if there is a one: where the next place goes.
-#[tactic(auto, using(crate::proofs::PlacesOut::one_place, crate::proofs::PlacesOut::no_place))]
-fn put_place(out: &mut [u8], n: usize, i: u8, b: u8) -> usize
-    requires { n + length (places i (b ∷ [])) ≤ length out.old }
-    ensures count { result ≡ n + length (places i (b ∷ [])) }
-    ensures front { take result out.new ≡ take n out.old ++ places i (b ∷ []) }
-    ensures back { drop result out.new ≡ drop result out.old }
-    ensures room { result ≤ length out.old }
+// Writes the places of a row at the front of what is lent: how many there are. The count is kept by hand, since contracts say by it what is written.
+fn pack_row(row: &[u8; 256], out: &mut [u8]) -> usize
+    requires { length (places 0 row.now) ≤ length out.old }
+    ensures count { result ≡ length (places 0 row.now) }
+    ensures value { out.new ≡ places 0 row.now ++ drop result out.old }
 {
-    if b != 0 {
-        out[n] = i;
-        n + 1
-    } else {
-        n
-    }
-}
-
-// Writes the places of a row from n on: where they end.
-fn pack_row(row: &[u8; 256], out: &mut [u8], n: usize) -> usize
-    requires { n + length (places 0 row.now) ≤ length out.old }
-    ensures count { result ≡ n + length (places 0 row.now) }
-    ensures front { take result out.new ≡ take n out.old ++ places 0 row.now }
-    ensures back { drop result out.new ≡ drop result out.old }
-{
-    let mut m = n;
+    let mut n = 0;
     for (i, b) in row.iter().enumerate() {
-        m = put_place(out, m, i as u8, *b);
+        if *b != 0 {
+            out[n] = i as u8;
+            n += 1;
+        }
     }
-    m
+    n
 }
 
-// HintBitPack: the places of all rows, noughts up to omega, and where each row ends.
+// HintBitPack: the places of all rows, noughts up to omega, and where each row ends, which is the standard's Index.
 pub fn hint_bit_pack(p: DsaSet, hs: &[[u8; 256]], out: &mut [u8])
     requires rows { length hs.now ≡ p.k }
     requires long { length out.old ≡ p.omega + p.k }
@@ -79,12 +64,12 @@ pub fn hint_bit_pack(p: DsaSet, hs: &[[u8; 256]], out: &mut [u8])
     ensures { out.new ≡ hint_bit_pack (dsa_numbers p) hs.now }
 {
     let omega = p.omega;
-    let mut n = 0;
+    let mut index = 0;
     for (i, row) in hs.iter().enumerate() {
-        n = pack_row(row, out, n);
-        out[omega + i] = n as u8;
+        index += pack_row(row, &mut out[index..omega]);
+        out[omega + i] = index as u8;
     }
-    out[n..omega].fill(0);
+    out[index..omega].fill(0);
 }
 
 fn all_zero(bs: &[u8]) -> bool
