@@ -1,8 +1,10 @@
 // Transforms and products of rows. In every contract row i of the result is an equation of its own; all numbers stay below q.
 // Loops go by row: the rows may be secret, and this form lowers to plain code that reads the same places whatever they hold.
+// Each function is one loop around a step with a law of its own. One function over a trait of steps was tried, and proved: it is for steps on one row
+// alone, and each impl says the step's law again in more lines than the loop has. A closure would be called on rows that may be secret.
 #![tactic(auto, using(mldsa_laws::proofs::RowLoops::rows_are))]
 
-ghost use Rattle.std.specs.Prelude.{◌≡◌, ℕ, ◌+◌, ◌*◌, ◌<◌, ◌≤◌, T, length};
+ghost use Rattle.std.specs.Prelude.{◌≡◌, ◌+◌, ◌*◌, ◌≤◌, T, length};
 ghost use Rattle.standards.specs.Lists.{row_at, tables, all_below};
 ghost use Rattle.standards.specs.Ring.{add_p, sub_p, sum_p};
 ghost use Rattle.standards.specs.MlDsaParts.{ntt as dsa_ntt, ntt_inv, multiply_ntt};

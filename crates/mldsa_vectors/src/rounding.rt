@@ -1,8 +1,10 @@
 // Rounding and hints, row by row.
 // Loops go by row: the rows may be secret, and this form lowers to plain code that reads the same places whatever they hold.
+// Each function is one loop around a step with a law of its own. One function over a trait of steps was tried, and proved: it is for steps on one row
+// alone, and each impl says the step's law again in more lines than the loop has. A closure would be called on rows that may be secret.
 #![tactic(auto, using(mldsa_laws::proofs::RowLoops::rows_are))]
 
-ghost use Rattle.std.specs.Prelude.{◌≡◌, T, length};
+ghost use Rattle.std.specs.Prelude.{◌≡◌, length};
 ghost use Rattle.standards.specs.Lists.{row_at, tables};
 ghost use Rattle.standards.specs.Ring.{zero_p, add_p, sub_p};
 ghost use Rattle.standards.specs.MlDsaParts.{power2_round1_p, power2_round0_p, high_bits_p, low_bits_p, make_hint_p, use_hint_p};
