@@ -40,7 +40,7 @@ pub fn expand_s<H: Hash>(eta: usize, rho: &[u8], first: usize, s: &mut [[u32; 25
 {
     let mut full = true;
     for i in 0..s.len() {
-        full &= rej_bounded_poly::<H>(eta, rho, &[(first + i) as u8, 0], &mut s[i]);
+        full &= rej_bounded_poly::<H>(eta, rho, &((first + i) as u16).to_le_bytes(), &mut s[i]);
     }
     full
 }
