@@ -1,1 +1,3 @@
 mod Told
+mod Words
+mod Reports

@@ -1,9 +1,12 @@
 // What `kem` answers, as functions of the words and files that it is given. The main only reads and prints.
 #![tactic(auto)]
 
+pub mod fault;
+pub mod fields;
 pub mod kem;
 pub mod problem;
 pub mod texts;
+pub mod vectors;
 
 // Exchanges by the plain hashes: nothing in ML-KEM rests on FIPS 202.
 #[cfg(test)]

@@ -1,4 +1,4 @@
-mod FirstLine
+pub mod FirstLine
 mod Left
 mod Loop
 pub mod Numbers

@@ -1,8 +1,9 @@
 // The words of a line, one after the other.
-ghost use Rattle.std.specs.Prelude.{◌<◌, ◌^◌, length, IsUtf8};
+ghost use Rattle.std.specs.Prelude.{◌≡◌, ◌<◌, ◌^◌, length, map, IsUtf8, IfOk};
 ghost use Rattle.std.specs.Str.Iter.{split_whitespace_rest};
 ghost use Rattle.lines.specs.Words.{words_of};
 
+use std::alloc::{AllocError, Global};
 use std::str::SplitWhitespace;
 
 // The words that are still to come, fewer than 2^64: a count of them does not overflow.
@@ -42,4 +43,11 @@ impl<'a> Iterator for LineWords<'a> {
     fn next(&mut self) -> Option<&'a str> {
         self.rest.next()
     }
+}
+
+// All words of a line, for a pattern that takes it apart.
+pub fn line_words(heap: Global, line: &str) -> Result<Vec<&str>, AllocError>
+    ensures { IfOk result (λ v. map (λ w. w.now) v.items ≡ words_of line.now) }
+{
+    LineWords::new(line).collect(heap)
 }

@@ -1,0 +1,27 @@
+// Runs outside vectors, a line of standard input each, by the hashes of FIPS 202:
+//     kem SET d z m ek dk c K
+// SET is 1, 2 or 3; each field is hexadecimal digits, or `-` for none. A line is checked by making its keys, encapsulating and decapsulating.
+// It prints `line 5 differs at c`, `line 5 no 3` for a call that refuses, `line 5 no 7` for other words, and stops there; or, at the end, `read 12`.
+#![tactic(auto)]
+
+ghost use Rattle.std.specs.Prelude.{IfSome, OnOk};
+ghost use Rattle.std.specs.Io.KnownBytes.{Appends};
+ghost use Rattle.std.specs.Str.Lines.{lines};
+ghost use Rattle.standards.specs.Fips202.{fips202};
+ghost use Rattle.files.specs.Vectors.{report};
+
+use fips202::functions::Fips202;
+use lines::serve;
+use std::alloc::Global;
+use std::io::{self, BufRead, Write};
+
+// What is written is a function of the input.
+fn run<R: BufRead + Drop, W: Write>(heap: Global, input: R, out: &mut W) -> io::Result<()>
+    ensures { OnOk result (IfSome (R.remaining input) (λ text. Appends (W.contents out.old) (W.contents out.new) (report fips202 0 (lines text)))) }
+{
+    files::vectors::run::<Fips202, R, W>(heap, input, out)
+}
+
+fn main(rt: HostRuntime) -> io::Result<()> {
+    serve(&rt, run)
+}
