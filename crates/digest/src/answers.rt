@@ -38,6 +38,7 @@ impl fmt::Display for Problem {
     }
 }
 
+// One `From<E> for Failure<E>` over any E would overlap with that of `AllocError`.
 impl From<Problem> for Failure<Problem> {
     ghost use Rattle.lines.specs.declared.failure.Failure.TheVariants.{Problem};
 

@@ -16,7 +16,8 @@ use std::io::{self, BufRead, Write};
 mod answers;
 mod functions;
 
-// Answers each line of the input. What is written is a function of the input, but for lines at which there is no memory.
+// Answers each line of the input. What is written is a function of the input, but for lines at which there is no memory. The clause names this program's
+// answers; what is the same in every program is `answer_lines`.
 fn run<R: BufRead + Drop, W: Write>(heap: Global, input: R, out: &mut W) -> io::Result<()>
     ensures { OnOk result (AnswersLines Answers (R.remaining input) (W.contents out.old) (W.contents out.new)) }
 {

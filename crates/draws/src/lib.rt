@@ -16,7 +16,8 @@ use hash::Reader;
 pub mod candidates;
 pub mod row;
 
-// Offers the candidates of whole groups, of which the block has as many as `groups` says: how many bytes a group has is the kind's.
+// Offers the candidates of whole groups, of which the block has as many as `groups` says: out of the block's length it would be a division, which the
+// invariant would have to undo.
 fn draw_block<const ROOM: usize, C: Candidates<ROOM>>(
     kind: C,
     block: &[u8],
@@ -50,8 +51,8 @@ fn draw_next<const ROOM: usize, C: Candidates<ROOM>, R: Reader>(
     draw_block(kind, part, groups, row);
 }
 
-// Draws till 256 numbers are there: out of how many groups, or `None` if all that are looked at hold fewer. The loop ends where the numbers are
-// there, which no count says beforehand: it is left by its label.
+// Draws till 256 numbers are there: out of how many groups, or `None` if all that are looked at hold fewer. The loop ends where the numbers
+// are there, which no range counts, and by a rule of the project it is left by its label.
 pub fn draw<const ROOM: usize, C: Candidates<ROOM>, R: Reader>(
     kind: C,
     reader: &mut R,

@@ -1,4 +1,5 @@
-// Bytes to hexadecimal digits and back.
+// Bytes to hexadecimal digits and back. The kit's crate `hex` reads no spaces and line ends, and says what it gives by other definitions than those that the
+// programs promise: what would be left to write and to prove around it is as long as these functions.
 #![tactic(auto)]
 
 ghost use Rattle.std.specs.Prelude.{◌≡◌, ℕ, ◌+◌, ◌*◌, ◌/◌, ◌%◌, ◌<◌, ◌≤◌, false, T, List, ◌++◌, length, IfOk, MatchOption, OnOk, string_bytes};

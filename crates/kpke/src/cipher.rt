@@ -1,7 +1,7 @@
 // K-PKE.Encrypt and K-PKE.Decrypt.
 // Loops go by row: the rows may be secret, and this form lowers to plain code that reads the same places whatever they hold. Rooms are for the
-// largest set, and what is lent of them is as long as the set asks: memory is fixed. How long rows and ciphertexts are stands in clauses: some are lent
-// to be read and some to be written, and a type would hold one kind of lending.
+// largest set, and what is lent of them is as long as the set asks: memory is fixed. How long rows and ciphertexts are, and that rows' numbers are
+// below q, stands in clauses: some are lent to be read and some to be written, and a type would hold one kind of lending.
 ghost use Rattle.std.specs.Prelude.{◌≡◌, ◌+◌, ◌*◌, ◌^◌, ◌≤◌, T, ◌++◌, length};
 ghost use Rattle.standards.specs.Lists.{row_at, tables, joined, all_below};
 ghost use Rattle.standards.specs.Bytes.{pack};
@@ -109,7 +109,7 @@ pub fn encrypt<H: Hash>(
     write_text(p, u, &v, text);
 }
 
-// A ciphertext's rows of u, transformed.
+// A ciphertext's rows of u, transformed. Each is made in a room of its own, as above.
 #[tactic(auto, using(algebra::proofs::Packing::below_unpack))]
 fn text_rows(p: KemSet, c: &[u8], v: &mut [[u16; 256]])
     requires rows { length v.old ≡ p.k }

@@ -1,5 +1,6 @@
 // Vectors and matrices as slices of plain rows: drawing and decoding.
 // Loops go by row: the rows may be secret, and this form lowers to plain code that reads the same places whatever they hold.
+// Bounds of a row's numbers stand in clauses: rows are plain, since one that is lent to be filled may hold anything before.
 ghost use Rattle.std.specs.Prelude.{◌≡◌, ◌*◌, ◌^◌, ◌≤◌, T, length, OnOk, if◌then◌else◌};
 ghost use Rattle.standards.specs.Lists.{all_below};
 ghost use Rattle.standards.specs.MlKemParts.{ntt as kem_ntt};

@@ -1,4 +1,5 @@
-// What stops an answer.
+// What stops an answer. `Display` and `From` are written out, here and at each program's problems: a derive of the kit's `thiserror` states neither the message
+// nor which variant `From` makes.
 ghost use Rattle.std.specs.Prelude.{◌≡◌};
 
 use std::alloc::AllocError;

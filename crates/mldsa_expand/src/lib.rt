@@ -1,6 +1,7 @@
 // ExpandA, ExpandS and ExpandMask: matrices and vectors out of a seed, row by row.
 // The matrix is public, and its loop walks the rows. Small polynomials and masks are secret: their loops go by index, which lowers to plain code.
 // Every row is drawn and stated whatever the draws before it were, so what ExpandA and ExpandS answer is a `bool` and no reason to stop.
+// Bounds of a row's numbers stand in clauses: rows are plain, since one that is lent to be filled may hold anything before.
 #![tactic(auto, using(mldsa_laws::proofs::RowLoops::rows_are))]
 
 ghost use Rattle.std.specs.Prelude.{◌≡◌, ◌+◌, ◌*◌, ◌/◌, ◌%◌, ◌<◌, ◌≤◌, T, ◌⊎◌, length};

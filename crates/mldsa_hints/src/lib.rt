@@ -99,7 +99,8 @@ fn unpack_row(places: &[u8], row: &mut [u8; 256]) -> Result<(), Malformed>
     Ok(())
 }
 
-// HintBitUnpack, of a whole signature, if the hint part is as it has to be. If not, nothing is said of the rows.
+// HintBitUnpack, of a whole signature, if the hint part is as it has to be. If not, nothing is said of the rows. `begin` is the standard's Index: a row's places
+// begin where those of the row before ended, and the ends stand behind all places, that of row i at omega + i.
 pub fn hint_bit_unpack(p: DsaSet, sig: &[u8], hs: &mut [[u8; 256]]) -> Result<(), Malformed>
     requires long { length sig.now ≡ sig_length (dsa_numbers p) }
     requires rows { length hs.old ≡ p.k }

@@ -1,5 +1,6 @@
 // BitPack and BitUnpack of numbers modulo q around 0, and t1 as verification multiplies by it.
 // Loops go by index: the numbers may be secret, and this form lowers to plain code that reads the same places whatever they are.
+// Bounds of a row's numbers stand in clauses: rows are plain, since one that is lent to be filled may hold anything before.
 #![tactic(auto, using(crate::proofs::Numbers::number_loops))]
 
 ghost use Rattle.std.specs.Prelude.{◌≡◌, ◌*◌, ◌%◌, T, length};

@@ -1,5 +1,6 @@
 // Tests of infinity norms. Every number is looked at, whatever the ones before it were.
 // Loops go by index, which lowers to plain code that reads the same places whatever the numbers are.
+// Bounds of a row's numbers stand in clauses: rows are plain, since one that is lent to be filled may hold anything before.
 ghost use Rattle.std.specs.Prelude.{◌≡◌, ◌<◌, T, length, nat_lt};
 ghost use Rattle.standards.specs.Lists.{all_below};
 ghost use Rattle.standards.specs.Ring.{magnitude as magnitude_of, norm, norms as norms_of};
@@ -30,7 +31,7 @@ pub fn norm_below(f: &[u32; 256], bound: u32) -> bool
     small
 }
 
-// Whether the norm of a vector is below a bound.
+// Whether the norm of a vector is below a bound: row by row, as above number by number.
 pub fn norms_below(v: &[[u32; 256]], bound: u32) -> bool
     requires some { 0 < bound }
     requires below { RowsBelow 8380417 (length v.now) v.now }

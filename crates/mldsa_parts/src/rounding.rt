@@ -1,6 +1,7 @@
 // Power2Round, HighBits, LowBits, MakeHint and UseHint, in whole numbers.
 // There is no branch on a number: gamma2 is public, and each division is by a constant, which the compiler turns into a product and a shift.
 // Loops go by index: the numbers may be secret, and this form lowers to plain code that reads the same places whatever they are.
+// Bounds of a row's numbers stand in clauses: rows are plain, since one that is lent to be filled may hold anything before.
 #![tactic(auto, using(crate::proofs::Numbers::number_loops))]
 
 ghost use Rattle.std.specs.Prelude.{◌≡◌, ◌+◌, ◌-◌, ◌%◌, ◌<◌, T};
@@ -27,7 +28,7 @@ fn power2_low(r: u32) -> u32
     (r + (Q - 8192 * power2_high(r))) % Q
 }
 
-// The high bits by 2 G, a constant in each of the two copies. Where r - r0 is q - 1 the quotient is their number, and stands for 0.
+// The high bits by 2 G, a constant in each of the two copies, whose fact is a clause, since a const parameter has no type that could hold it. Where r - r0 is q - 1 the quotient is their number, and stands for 0.
 fn high_by<const G: u32>(r: u32) -> u32
     requires set { IsGamma2 G }
     requires below { r < 8380417 }

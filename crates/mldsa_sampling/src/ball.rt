@@ -1,5 +1,6 @@
 // SampleInBall: a challenge with tau numbers 1 or -1, the others noughts.
 // The loop goes by the standard's index. Its places are the challenge's, which is public in a signature.
+// Bounds of a row's numbers stand in clauses: rows are plain, since one that is lent to be filled may hold anything before.
 ghost use Rattle.std.specs.Prelude.{◌≡◌, T};
 ghost use Rattle.standards.specs.Lists.{all_below};
 ghost use Rattle.standards.specs.MlDsaParts.{sample_in_ball};

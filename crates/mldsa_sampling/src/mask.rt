@@ -1,4 +1,5 @@
 // ExpandMask: a row of numbers from -gamma1 + 1 to gamma1, modulo q.
+// Bounds of a row's numbers stand in clauses: rows are plain, since one that is lent to be filled may hold anything before.
 ghost use Rattle.std.specs.Prelude.{◌≡◌, T};
 ghost use Rattle.standards.specs.Lists.{all_below};
 ghost use Rattle.standards.specs.MlDsaParts.{expand_mask};

@@ -1,6 +1,7 @@
 // Eight numbers of D bits are D bytes. Numbers come in at the top of a word and bytes leave it at the bottom, and the other way round.
 // D is from 1 to 24: a const parameter has no type of its own to hold that.
-// Loops go by index, for the numbers may be secret: which places are read, and how often the inner loops go round, depends on D alone.
+// Loops go by index, for the numbers may be secret: which places are read, and how often the inner loops go round, depends on D alone. `have` and `at` step by
+// hand: how many bytes a number completes is now one more and now one less, which no range counts.
 ghost use Rattle.std.specs.Prelude.{◌≡◌, ◌*◌, ◌<◌, ◌≤◌, length};
 ghost use Rattle.standards.specs.Bytes.{pack, unpack};
 

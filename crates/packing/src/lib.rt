@@ -56,6 +56,7 @@ impl Packed for u32 {
 }
 
 // How many bits a packed number has: one of the widths of the scheme whose words are W. `of` names W, which the fact alone would not, and takes no room.
+// A width that is known is written as a literal, where the check finds the fact: a constructor would ask for it by a clause, and a constant can't call one.
 pub struct Width<W: Packed> {
     pub bits: usize,
     pub of: PhantomData<W>,

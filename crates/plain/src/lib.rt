@@ -76,6 +76,7 @@ impl<const N: usize> Digest<N> for Sum {
 
 pub struct Plain;
 
+// Each of the hashes' functions by its name, a line each: they are one sum.
 impl Hash for Plain {
     type Reader128 = Count;
 

@@ -1,5 +1,6 @@
 // ML-KEM: polynomials of 256 numbers modulo 3329, one of 16 bits each.
 // Loops go by index: the numbers may be secret, and this form lowers to plain code that reads the same places whatever they are.
+// Bounds of a row's numbers stand in clauses: rows are plain, since one that is lent to be filled may hold anything before.
 ghost use Rattle.std.specs.Prelude.{◌≡◌, ◌+◌, ◌*◌, ◌%◌, ◌<◌, T};
 ghost use Rattle.std.proofs.Common.{lit<, lit≤};
 ghost use Rattle.standards.specs.Lists.{at, all_below};

@@ -25,8 +25,8 @@ pub trait Modular: Word {
     ghost positive: { 0 < q };
 }
 
-// A sum is below 2 * 3329, which fits 16 bits; a product is below 2^24 and goes through 32. The modulus is a literal here and below, for the
-// compiler makes a product and a shift of `%` by it, and the word that a product goes through is another for each: so two impls of one line each.
+// A sum is below 2 * 3329, which fits 16 bits; a product is below 2^24 and goes through 32. The trait has no arithmetic on words, so each impl
+// writes its own: a line for each operation, with its modulus and the wider word that a product goes through.
 impl Modular for u16 {
     ghost q = { 3329 };
 

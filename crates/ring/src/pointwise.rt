@@ -1,5 +1,6 @@
 // Polynomials number by number, in place. Any of the numbers may be a secret: loops go by index, which lowers to plain code that reads the same
 // places whatever they are. Each has its own operation and its own clause, so they are a loop each.
+// Bounds of a row's numbers stand in clauses: rows are plain, since one that is lent to be filled may hold anything before.
 ghost use Rattle.std.specs.Prelude.{◌≡◌, ◌<◌, T, map};
 ghost use Rattle.standards.specs.Lists.{all_below};
 ghost use Rattle.standards.specs.Ring.{Poly, zero_p, add_p, sub_p};

@@ -1,5 +1,6 @@
 // The transforms of both schemes in place, over the powers of a root of unity: all layers, and for the inverse the last factor.
 // Loops go by the layers' numbers, for the numbers of the row may be secret: branches and places are known from the layers alone.
+// Bounds of a row's numbers stand in clauses: rows are plain, since one that is lent to be filled may hold anything before.
 ghost use Rattle.std.specs.Prelude.{◌≡◌, ℕ, ◌^◌, ◌<◌, ◌≤◌, T, List, map};
 ghost use Rattle.standards.specs.Lists.{all_below};
 ghost use Rattle.standards.specs.Ring.{Poly};

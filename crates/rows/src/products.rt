@@ -1,5 +1,6 @@
 // Sums of products of rows.
 // Loops go by row: the rows may be secret, and this form lowers to plain code that reads the same places whatever they hold.
+// Bounds of a row's numbers stand in clauses: rows are plain, since one that is lent to be filled may hold anything before.
 ghost use Rattle.std.specs.Prelude.{◌≡◌, ℕ, ◌+◌, ◌*◌, ◌<◌, T, List, [], length, get_or};
 ghost use Rattle.standards.specs.Lists.{all_below};
 ghost use Rattle.standards.specs.Ring.{add_p, sum_p};
