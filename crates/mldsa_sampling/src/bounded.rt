@@ -4,9 +4,8 @@ ghost use Rattle.std.specs.Prelude.{◌≡◌, ◌<◌, T, ◌⊎◌, ◌++◌, 
 ghost use Rattle.standards.specs.Lists.{table, at, all_below};
 ghost use Rattle.standards.specs.MlDsaParts.{half_byte_fits, coeff_from_half_byte, rej_bounded_poly};
 
-use super::drawn::put_drawn;
+use super::drawn::draw_row;
 use draws::candidates::Candidates;
-use draws::draw;
 use draws::row::Row;
 use hash::Hash;
 use mldsa_parts::Q;
@@ -100,9 +99,5 @@ pub fn rej_bounded_poly<H: Hash>(eta: usize, rho: &[u8], n: &[u8], f: &mut [u32;
     ensures row { f.new ≡ table 256 (at (rej_bounded_poly H.Hash.hashes eta (rho.now ++ n.now))) }
     ensures below { T (all_below 8380417 f.new) }
 {
-    let mut row: Row<u32, 528> = Row::new();
-    let mut reader = H::shake256(rho, n);
-    let full = draw(HalfBytes { eta }, &mut reader, &mut row).is_some();
-    put_drawn(row.as_slice(), f);
-    full
+    draw_row(HalfBytes { eta }, H::shake256(rho, n), f)
 }

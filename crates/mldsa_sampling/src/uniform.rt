@@ -3,9 +3,8 @@ ghost use Rattle.std.specs.Prelude.{◌≡◌, T, ◌++◌, length, ◌==◌};
 ghost use Rattle.standards.specs.Lists.{table, at, all_below};
 ghost use Rattle.standards.specs.MlDsaParts.{rej_ntt_poly};
 
-use super::drawn::put_drawn;
+use super::drawn::draw_row;
 use draws::candidates::Candidates;
-use draws::draw;
 use draws::row::Row;
 use hash::Hash;
 use mldsa_parts::Q;
@@ -74,9 +73,5 @@ pub fn rej_ntt_poly<H: Hash>(rho: &[u8], entry: &[u8], f: &mut [u32; 256]) -> bo
     ensures row { f.new ≡ table 256 (at (rej_ntt_poly H.Hash.hashes (rho.now ++ entry.now))) }
     ensures below { T (all_below 8380417 f.new) }
 {
-    let mut row: Row<u32, 312> = Row::new();
-    let mut reader = H::shake128(rho, entry);
-    let full = draw(BelowQ, &mut reader, &mut row).is_some();
-    put_drawn(row.as_slice(), f);
-    full
+    draw_row(BelowQ, H::shake128(rho, entry), f)
 }
