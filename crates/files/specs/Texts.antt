@@ -1,5 +1,6 @@
 -- What the programs read of a word and of a file, and how they print. Characters are their codes. Assumes nothing.
-use Rattle.std.specs.Prelude.{ℕ, ◌-◌, Bool, true, cond, not, ◌&&◌, List, [], ◌∷◌, ◌++◌, length, Some, None, vec_items, codes, decimal, Option, Vec, ◌==◌, nat_le}
+use Rattle.std.specs.Prelude.{ℕ, ◌-◌, Bool, true, cond, not, ◌&&◌, List, [], ◌∷◌, ◌++◌, length, Some, None, codes, decimal, Option, ◌==◌, nat_le}
+use Rattle.std.specs.Borrow.{Bor}
 use Rattle.hex_digits.specs.Hex.{hex_of, is_hex, bytes_of}
 
 -- the longest text that a program takes, in characters: the digits of 4 MiB of bytes, and as much for spaces and line ends
@@ -13,9 +14,9 @@ set_of (c ∷ []) = cond (nat_le 49 c && nat_le c 51) (c - 48) 0
 set_of (c ∷ d ∷ cs) = 0
 
 -- the text of a file that was read
-abbrev pub text_of : {Z : Type 0} → Option (Vec ℕ Z) → Option (List ℕ)
+abbrev pub text_of : Option (Bor (List ℕ)) → Option (List ℕ)
 text_of None = None
-text_of (Some v) = Some (vec_items v)
+text_of (Some text) = Some text.now
 
 -- a file is its text, or nothing if it can't be read. One that can't be read has no bytes, nor has one that isn't hexadecimal
 abbrev pub unreadable : Option (List ℕ) → Bool

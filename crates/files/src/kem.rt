@@ -1,5 +1,6 @@
-// What `kem` answers, over any hashes. A set goes by its number up to the call, whose answer to a number of no set is part of what is stated.
+// What `kem` answers, over any hashes. A set goes on as its number, which the calls take: `set_number` has refused those that there are not, and `KemSet::try_from` looks up the lengths.
 // Each command is a function of its own, with the answer that it promises; what they share is in `told` and `both`.
+// Each command names its own two files, so they are parameters and no struct.
 ghost use Rattle.std.specs.Prelude.{◌≡◌, IfOk};
 ghost use Rattle.standards.specs.Hashes.{Hashes};
 ghost use Rattle.files.specs.Texts.{text_of};
@@ -47,10 +48,10 @@ fn call_decaps<H: Hash>(heap: Global, set: u8, dk: &[u8], c: &[u8]) -> Result<Ve
 fn try_keys<H: Hash>(
     heap: Global,
     set: &[u8],
-    d: &Option<Vec<u8>>,
-    z: &Option<Vec<u8>>,
+    d: Option<&[u8]>,
+    z: Option<&[u8]>,
 ) -> Result<Vec<u8>, Problem>
-    ensures { Answers result (keys_answer H.Hash.hashes set.now (text_of d.now) (text_of z.now)) }
+    ensures { Answers result (keys_answer H.Hash.hashes set.now (text_of d.entry) (text_of z.entry)) }
 {
     let n = set_number(set)?;
     let (d, z) = both(heap, d, z)?;
@@ -63,10 +64,10 @@ fn try_keys<H: Hash>(
 fn try_encaps<H: Hash>(
     heap: Global,
     set: &[u8],
-    ek: &Option<Vec<u8>>,
-    m: &Option<Vec<u8>>,
+    ek: Option<&[u8]>,
+    m: Option<&[u8]>,
 ) -> Result<Vec<u8>, Problem>
-    ensures { Answers result (encaps_answer H.Hash.hashes set.now (text_of ek.now) (text_of m.now)) }
+    ensures { Answers result (encaps_answer H.Hash.hashes set.now (text_of ek.entry) (text_of m.entry)) }
 {
     let n = set_number(set)?;
     let (ek, m) = both(heap, ek, m)?;
@@ -78,10 +79,10 @@ fn try_encaps<H: Hash>(
 fn try_decaps<H: Hash>(
     heap: Global,
     set: &[u8],
-    dk: &Option<Vec<u8>>,
-    c: &Option<Vec<u8>>,
+    dk: Option<&[u8]>,
+    c: Option<&[u8]>,
 ) -> Result<Vec<u8>, Problem>
-    ensures { Answers result (decaps_answer H.Hash.hashes set.now (text_of dk.now) (text_of c.now)) }
+    ensures { Answers result (decaps_answer H.Hash.hashes set.now (text_of dk.entry) (text_of c.entry)) }
 {
     let n = set_number(set)?;
     let (dk, c) = both(heap, dk, c)?;
@@ -92,10 +93,10 @@ fn try_decaps<H: Hash>(
 pub fn keys<H: Hash>(
     heap: Global,
     set: &[u8],
-    d: &Option<Vec<u8>>,
-    z: &Option<Vec<u8>>,
+    d: Option<&[u8]>,
+    z: Option<&[u8]>,
 ) -> Result<Vec<u8>, AllocError>
-    ensures { IfOk result (λ v. v.items ≡ keys_answer H.Hash.hashes set.now (text_of d.now) (text_of z.now)) }
+    ensures { IfOk result (λ v. v.items ≡ keys_answer H.Hash.hashes set.now (text_of d.entry) (text_of z.entry)) }
 {
     told(heap, try_keys::<H>(heap, set, d, z))
 }
@@ -104,10 +105,10 @@ pub fn keys<H: Hash>(
 pub fn encaps<H: Hash>(
     heap: Global,
     set: &[u8],
-    ek: &Option<Vec<u8>>,
-    m: &Option<Vec<u8>>,
+    ek: Option<&[u8]>,
+    m: Option<&[u8]>,
 ) -> Result<Vec<u8>, AllocError>
-    ensures { IfOk result (λ v. v.items ≡ encaps_answer H.Hash.hashes set.now (text_of ek.now) (text_of m.now)) }
+    ensures { IfOk result (λ v. v.items ≡ encaps_answer H.Hash.hashes set.now (text_of ek.entry) (text_of m.entry)) }
 {
     told(heap, try_encaps::<H>(heap, set, ek, m))
 }
@@ -116,10 +117,10 @@ pub fn encaps<H: Hash>(
 pub fn decaps<H: Hash>(
     heap: Global,
     set: &[u8],
-    dk: &Option<Vec<u8>>,
-    c: &Option<Vec<u8>>,
+    dk: Option<&[u8]>,
+    c: Option<&[u8]>,
 ) -> Result<Vec<u8>, AllocError>
-    ensures { IfOk result (λ v. v.items ≡ decaps_answer H.Hash.hashes set.now (text_of dk.now) (text_of c.now)) }
+    ensures { IfOk result (λ v. v.items ≡ decaps_answer H.Hash.hashes set.now (text_of dk.entry) (text_of c.entry)) }
 {
     told(heap, try_decaps::<H>(heap, set, dk, c))
 }

@@ -12,7 +12,7 @@ use std::alloc::{AllocError, Global};
 // The longest text that is taken: the digits of 4 MiB of bytes, and as much for spaces and line ends.
 pub const MOST_TEXT: usize = 16777216;
 
-// The number of the set that a word names.
+// The number of the set that a word names. Its digit is the calls' number of a set.
 pub fn set_number(word: &[u8]) -> Result<u8, Refusal>
     ensures { MatchResult result (λ n. (n ≡ set_of word.now) × (is_set n ≡ true)) (λ e. (e ≡ Refusal.NoSet) × (set_of word.now ≡ 0)) }
 {
@@ -23,27 +23,27 @@ pub fn set_number(word: &[u8]) -> Result<u8, Refusal>
 }
 
 // The bytes of a file, if it can be read and is hexadecimal. Of a text that is too long there are none, and no length is right.
-pub fn bytes(heap: Global, file: &Option<Vec<u8>>) -> Result<Vec<u8>, Problem>
+pub fn bytes(heap: Global, file: Option<&[u8]>) -> Result<Vec<u8>, Problem>
     ensures { MatchResult result
-        (λ v. (unreadable (text_of file.now) ≡ false) × (v.items ≡ bytes_in (text_of file.now)))
-        (λ p. IsRefusal p 7 (unreadable (text_of file.now) ≡ true)) }
+        (λ v. (unreadable (text_of file.entry) ≡ false) × (v.items ≡ bytes_in (text_of file.entry)))
+        (λ p. IsRefusal p 7 (unreadable (text_of file.entry) ≡ true)) }
 {
-    let text = file.as_ref().ok_or(Problem::Unreadable)?;
+    let text = file.ok_or(Problem::Unreadable)?;
     if text.len() > MOST_TEXT {
         return Ok(Vec::new(heap));
     }
-    read_hex(heap, text.as_slice())?.ok_or(Problem::Unreadable)
+    read_hex(heap, text)?.ok_or(Problem::Unreadable)
 }
 
 // The bytes of two files.
 pub fn both(
     heap: Global,
-    first: &Option<Vec<u8>>,
-    second: &Option<Vec<u8>>,
+    first: Option<&[u8]>,
+    second: Option<&[u8]>,
 ) -> Result<(Vec<u8>, Vec<u8>), Problem>
     ensures { MatchResult result
-        (λ f. (unreadable (text_of first.now) || unreadable (text_of second.now) ≡ false) × (f.0.items ≡ bytes_in (text_of first.now)) × (f.1.items ≡ bytes_in (text_of second.now)))
-        (λ p. IsRefusal p 7 (unreadable (text_of first.now) || unreadable (text_of second.now) ≡ true)) }
+        (λ f. (unreadable (text_of first.entry) || unreadable (text_of second.entry) ≡ false) × (f.0.items ≡ bytes_in (text_of first.entry)) × (f.1.items ≡ bytes_in (text_of second.entry)))
+        (λ p. IsRefusal p 7 (unreadable (text_of first.entry) || unreadable (text_of second.entry) ≡ true)) }
 {
     Ok((bytes(heap, first)?, bytes(heap, second)?))
 }

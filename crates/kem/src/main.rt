@@ -38,12 +38,12 @@ fn answer(
     heap: Global,
     call: &str,
     set: &[u8],
-    first: &Option<Vec<u8>>,
-    second: &Option<Vec<u8>>,
+    first: Option<&[u8]>,
+    second: Option<&[u8]>,
 ) -> Result<Vec<u8>, AllocError>
-    ensures keys { call.now ≡ codes "keys" → IfOk result (λ v. v.items ≡ keys_answer fips202 set.now (text_of first.now) (text_of second.now)) }
-    ensures encaps { call.now ≡ codes "encaps" → IfOk result (λ v. v.items ≡ encaps_answer fips202 set.now (text_of first.now) (text_of second.now)) }
-    ensures decaps { call.now ≡ codes "decaps" → IfOk result (λ v. v.items ≡ decaps_answer fips202 set.now (text_of first.now) (text_of second.now)) }
+    ensures keys { call.now ≡ codes "keys" → IfOk result (λ v. v.items ≡ keys_answer fips202 set.now (text_of first.entry) (text_of second.entry)) }
+    ensures encaps { call.now ≡ codes "encaps" → IfOk result (λ v. v.items ≡ encaps_answer fips202 set.now (text_of first.entry) (text_of second.entry)) }
+    ensures decaps { call.now ≡ codes "decaps" → IfOk result (λ v. v.items ≡ decaps_answer fips202 set.now (text_of first.entry) (text_of second.entry)) }
 {
     match call {
         "keys" => keys::<Fips202>(heap, set, first, second),
@@ -61,6 +61,12 @@ fn main(rt: HostRuntime) -> io::Result<()> {
     };
     let one = text(&rt, first.as_str())?;
     let other = text(&rt, second.as_str())?;
-    let lines = answer(heap, call.as_str(), set.as_str().as_bytes(), &one, &other)?;
+    let lines = answer(
+        heap,
+        call.as_str(),
+        set.as_str().as_bytes(),
+        one.as_deref(),
+        other.as_deref(),
+    )?;
     rt.stdout().write_all(lines.as_slice())
 }

@@ -10,5 +10,5 @@ returns g c =
     let f = c.in_ok-ek.ensures in
     let m = c.in_ok-m.ensures in
     let y = c.as_slice.ensures.value ∙ f.2 in
-    passes c.call_encaps.result (call_encaps g.H.Hash.hashes) c.args.set.now (text_of c.args.ek.now) (text_of c.args.m.now)
+    passes c.call_encaps.result (call_encaps g.H.Hash.hashes) c.args.set.now (text_of c.args.ek) (text_of c.args.m)
     c.call_encaps.ensures s.0 s.1 f.0 (ap (λ n. eqb n 32) (ap length (sym y) ∙ m.1)) (c.as_slice-2.ensures.value ∙ f.1) (m.0 ∙ y)
