@@ -1,5 +1,5 @@
 -- What is said of outside vectors, a line each, over any hashes: the first thing that is wrong. Assumes nothing.
-use Rattle.std.specs.Prelude.{ℕ, ◌+◌, cond, ◌&&◌, List, [], ◌∷◌, ◌++◌, length, codes, decimal, bytes_eq, ◌==◌, Ok, Err, Result, ⊤}
+use Rattle.std.specs.Prelude.{ℕ, ◌+◌, cond, List, [], ◌∷◌, ◌++◌, length, codes, decimal, bytes_eq, ◌==◌, Ok, Err, Result, ⊤}
 use Rattle.standards.specs.Hashes.{Hashes}
 use Rattle.standards.specs.MlKem.{ek_length, dk_length, text_length, ek_of, dk_of, encaps_key, encaps_text, decaps}
 use Rattle.standards.specs.Calls.{is_set, kem_of, kem_keys_verdict, encaps_verdict, decaps_verdict}
