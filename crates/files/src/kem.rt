@@ -1,4 +1,5 @@
-// What `kem` answers, over any hashes. A set goes on as its number, which the calls take: `set_number` has refused those that there are not, and `KemSet::try_from` looks up the lengths.
+// What `kem` answers, over any hashes. A set goes on as its number, which the calls take: `set_number` has refused those that there are not, and
+// `KemSet::try_from` looks up the lengths.
 // Each command is a function of its own, with the answer that it promises; what they share is in `told` and `both`.
 // Each command names its own two files, so they are parameters and no struct.
 ghost use Rattle.std.specs.Prelude.{◌≡◌, IfOk};

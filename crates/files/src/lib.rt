@@ -1,4 +1,4 @@
-// What `kem` answers, as functions of the words and files that it is given. The main only reads and prints.
+// What `kem` answers, as functions of the words and files that it is given, and what `vectors` says of its input. The mains only read and print.
 #![tactic(auto)]
 
 pub mod fault;
@@ -11,7 +11,10 @@ pub mod vectors;
 // Exchanges by the plain hashes: nothing in ML-KEM rests on FIPS 202.
 #[cfg(test)]
 mod tests {
-    use sets::types::KemSet;
+    use crate::fault::Fault;
+    use crate::problem::Problem;
+    use crate::vectors::check_line;
+    use sets::types::{KemSet, Refusal};
     use sets::verdict;
     use std::alloc::Global;
     use std::process::Abort;
@@ -75,6 +78,47 @@ mod tests {
         assert_eq!(rt; n, 4);
         assert_eq!(rt; key, [9; 32]);
         assert_eq!(rt; c, vec![in heap; 9u8; p.text_length()]?);
+        Ok(())
+    }
+
+    // A line of outside vectors: words, the set, digits, the lengths of the seeds, and the first field that differs, in this order.
+    fn says(rt: &impl Abort, heap: Global, line: &str, fault: Fault) {
+        assert_eq!(rt; check_line::<plain::Plain>(heap, line), Err(fault));
+    }
+
+    #[test]
+    fn faults_of_lines(rt: HostRuntime) -> Result<(), Fail> {
+        let heap = rt.alloc();
+        says(
+            &rt,
+            heap,
+            "kem 1 00 00 00 - - -",
+            Fault::No(Problem::Unreadable),
+        );
+        says(
+            &rt,
+            heap,
+            "KEM 1 00 00 00 - - - -",
+            Fault::No(Problem::Unreadable),
+        );
+        says(
+            &rt,
+            heap,
+            "kem 4 0 00 00 - - - -",
+            Fault::No(Problem::Refused(Refusal::NoSet)),
+        );
+        says(
+            &rt,
+            heap,
+            "kem 1 0 00 00 - - - -",
+            Fault::No(Problem::Unreadable),
+        );
+        says(
+            &rt,
+            heap,
+            "kem 1 00 00 00 - - - -",
+            Fault::No(Problem::Refused(Refusal::Length)),
+        );
         Ok(())
     }
 
