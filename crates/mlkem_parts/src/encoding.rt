@@ -1,10 +1,12 @@
 // ByteDecode of 12 bits, and a message's bits as a polynomial.
 // Loops go by index: the numbers may be secret, and this form lowers to plain code that reads the same places whatever they are.
+// Bounds of a row's numbers stand in clauses: rows are plain, since one that is lent to be filled may hold anything before.
 ghost use Rattle.std.specs.Prelude.{◌≡◌, T, length};
 ghost use Rattle.standards.specs.Lists.{all_below};
 ghost use Rattle.standards.specs.MlKemParts.{byte_decode12};
 ghost use Rattle.standards.specs.MlKem.{mu as mu_of};
 
+use crate::Q;
 use crate::rounding::decompress;
 use packing::{Width, unpack};
 use std::marker::PhantomData;
@@ -30,7 +32,7 @@ pub fn byte_decode_12(bs: &[u8], f: &mut [u16; 256])
 {
     unpack(KEY_BITS, bs, f);
     for i in 0..256 {
-        f[i] %= 3329;
+        f[i] %= Q;
     }
 }
 

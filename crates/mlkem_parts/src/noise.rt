@@ -1,10 +1,13 @@
 // SamplePolyCBD: a number from -eta to eta is the sum of eta bits less the sum of the eta bits after them.
 // Loops go by index: noise is secret, and this form lowers to plain code that reads the same places whatever it is.
+// Bounds of a row's numbers stand in clauses: rows are plain, since one that is lent to be filled may hold anything before.
+// ETA is 2 or 3: a const parameter has no type that could hold that.
 ghost use Rattle.std.specs.Prelude.{◌≡◌, ◌*◌, ◌<◌, ◌≤◌, T, length};
 ghost use Rattle.standards.specs.Lists.{all_below};
 ghost use Rattle.standards.specs.MlKemParts.{sample_poly_cbd};
 ghost use Rattle.mlkem_parts.specs.Bits.{bits_less};
 
+use crate::Q;
 use packing::{Width, unpack};
 use sets::types::Eta;
 use std::marker::PhantomData;
@@ -21,7 +24,7 @@ fn cbd_number<const ETA: usize>(v: u16) -> u16
         plus += (v >> j) & 1;
         minus += (v >> (ETA + j)) & 1;
     }
-    (plus + (3329 - minus)) % 3329
+    (plus + (Q - minus)) % Q
 }
 
 fn cbd_row<const ETA: usize>(bs: &[u8], f: &mut [u16; 256])

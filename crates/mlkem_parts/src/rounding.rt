@@ -1,8 +1,11 @@
 // Compress and Decompress, in whole numbers. Division is by a constant, which the compiler turns into a product and a shift.
 // Loops go by index: the numbers may be secret, and this form lowers to plain code that reads the same places whatever they are.
+// Bounds of a row's numbers stand in clauses: rows are plain, since one that is lent to be filled may hold anything before.
 ghost use Rattle.std.specs.Prelude.{◌≡◌, ◌^◌, ◌<◌, ◌≤◌, T};
 ghost use Rattle.standards.specs.Lists.{all_below};
 ghost use Rattle.standards.specs.MlKemParts.{compress, decompress, compress_p, decompress_p};
+
+use crate::Q;
 
 // 2^(d + 1) x + q is below 2^25. The bound on d is a clause and no type: numbers are compressed to any d bits, not only to widths that are packed.
 #[tactic(auto, using(crate::proofs::Numbers::compress_steps))]
@@ -11,7 +14,7 @@ fn compress_number(d: usize, x: u16) -> u16
     ensures value { result ≡ compress d x }
     ensures below { result < 2 ^ d }
 {
-    let t = ((u32::from(x) << (d + 1)) + 3329) / 6658;
+    let t = ((u32::from(x) << (d + 1)) + u32::from(Q)) / (2 * u32::from(Q));
     (t & ((1u32 << d) - 1)) as u16
 }
 
@@ -22,7 +25,7 @@ fn decompress_number(d: usize, y: u16) -> u16
     ensures value { result ≡ decompress d y }
     ensures below { result < 3329 }
 {
-    ((6658 * u32::from(y) + (1u32 << d)) >> (d + 1)) as u16
+    ((2 * u32::from(Q) * u32::from(y) + (1u32 << d)) >> (d + 1)) as u16
 }
 
 // Compress, number by number.

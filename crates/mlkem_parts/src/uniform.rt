@@ -1,8 +1,10 @@
 // SampleNTT: numbers below q, drawn by rejection out of a public stream.
+// Bounds of a row's numbers stand in clauses: rows are plain, since one that is lent to be filled may hold anything before.
 ghost use Rattle.std.specs.Prelude.{◌≡◌, T, ◌≢◌, ◌++◌, length, IfSome, MatchOption};
 ghost use Rattle.standards.specs.Lists.{all_below};
 ghost use Rattle.standards.specs.MlKemParts.{sample_ntt};
 
+use crate::Q;
 use draws::candidates::Candidates;
 use draws::draw;
 use draws::row::Row;
@@ -61,9 +63,9 @@ impl Candidates<368> for BelowQ {
         let b = u16::from(group[1]);
         let c = u16::from(group[2]);
         let x = a + 256 * (b % 16);
-        row.offer(x, x < 3329);
+        row.offer(x, x < Q);
         let y = b / 16 + 16 * c;
-        row.offer(y, y < 3329);
+        row.offer(y, y < Q);
     }
 }
 
