@@ -2,7 +2,8 @@
 #![tactic(auto)]
 
 ghost use Rattle.std.specs.Prelude.{◌≡◌, ℕ, ◌^◌, ◌<◌, List, map};
-ghost use Rattle.words.specs.Lists.{map_same};
+ghost use Rattle.std.proofs.Common.{sym};
+ghost use Rattle.std.proofs.lemmas.List.{map-id};
 
 pub trait Word: Copy {
     // the number that a word stands for
@@ -32,7 +33,7 @@ impl Word for u16 {
 
     ghost bits = { 16 };
 
-    ghost numbers_are = { map_same };
+    ghost numbers_are = { λ xs. sym (map-id xs) };
 
     fn wide(self) -> u32 {
         u32::from(self)
@@ -50,7 +51,7 @@ impl Word for u32 {
 
     ghost bits = { 32 };
 
-    ghost numbers_are = { map_same };
+    ghost numbers_are = { λ xs. sym (map-id xs) };
 
     fn wide(self) -> u32 {
         self
