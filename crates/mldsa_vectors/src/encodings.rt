@@ -1,5 +1,7 @@
 // Rows to bytes and back, one row after the other.
 // Loops go by row: the rows may be secret, and this form lowers to plain code that reads the same places whatever they hold.
+// Each function is one loop around a step with a law of its own.
+// Bounds of a row's numbers stand in clauses: rows are plain, since one that is lent to be filled may hold anything before.
 #![tactic(auto, using(mldsa_laws::proofs::RowLoops::rows_are))]
 
 ghost use Rattle.std.specs.Prelude.{◌≡◌, ◌*◌, ◌≤◌, length, take, drop};

@@ -2,6 +2,7 @@
 // Loops go by row: the rows may be secret, and this form lowers to plain code that reads the same places whatever they hold.
 // Each function is one loop around a step with a law of its own. One function over a trait of steps was tried, and proved: it is for steps on one row
 // alone, and each impl says the step's law again in more lines than the loop has. A closure would be called on rows that may be secret.
+// Bounds of a row's numbers stand in clauses: rows are plain, since one that is lent to be filled may hold anything before.
 #![tactic(auto, using(mldsa_laws::proofs::RowLoops::rows_are))]
 
 ghost use Rattle.std.specs.Prelude.{◌≡◌, ◌+◌, ◌*◌, ◌≤◌, T, length};
@@ -12,6 +13,7 @@ ghost use Rattle.algebra.specs.RowArrays.{RowsBelow};
 
 use ring::dsa::multiply_ntt;
 use ring::pointwise::{add, sub};
+use ring::poly::Poly;
 use ring::transform::{ntt, ntt_inverse};
 use rows::products::dot;
 
@@ -41,24 +43,22 @@ pub fn matrix_product(a: &[[u32; 256]], s: &[[u32; 256]], w: &mut [[u32; 256]])
 }
 
 // c times s, transformed back.
-fn product(c: &[u32; 256], s: &[u32; 256]) -> [u32; 256]
-    requires left { T (all_below 8380417 c.now) }
+fn product(c: &Poly<u32>, s: &[u32; 256]) -> [u32; 256]
     requires right { T (all_below 8380417 s.now) }
-    ensures value { result ≡ ntt_inv (multiply_ntt c.now s.now) }
+    ensures value { result ≡ ntt_inv (multiply_ntt c.now.c s.now) }
     ensures below { T (all_below 8380417 result) }
 {
-    let mut f = *c;
+    let mut f = c.c;
     multiply_ntt(&mut f, s);
     ntt_inverse(&mut f);
     f
 }
 
 // c times each row of s, transformed back.
-pub fn products(c: &[u32; 256], s: &[[u32; 256]], out: &mut [[u32; 256]])
+pub fn products(c: &Poly<u32>, s: &[[u32; 256]], out: &mut [[u32; 256]])
     requires long { length s.now ≡ length out.old }
-    requires left { T (all_below 8380417 c.now) }
     requires right { RowsBelow 8380417 (length s.now) s.now }
-    ensures value { out.new ≡ tables (length out.old) (λ i. ntt_inv (multiply_ntt c.now (row_at s.now i))) }
+    ensures value { out.new ≡ tables (length out.old) (λ i. ntt_inv (multiply_ntt c.now.c (row_at s.now i))) }
     ensures below { RowsBelow 8380417 (length out.old) out.new }
 {
     for i in 0..out.len() {
@@ -67,12 +67,11 @@ pub fn products(c: &[u32; 256], s: &[[u32; 256]], out: &mut [[u32; 256]])
 }
 
 // Adds c times each row of s to the rows of v.
-pub fn add_products(v: &mut [[u32; 256]], c: &[u32; 256], s: &[[u32; 256]])
+pub fn add_products(v: &mut [[u32; 256]], c: &Poly<u32>, s: &[[u32; 256]])
     requires long { length s.now ≡ length v.old }
     requires rows { RowsBelow 8380417 (length v.old) v.old }
-    requires left { T (all_below 8380417 c.now) }
     requires right { RowsBelow 8380417 (length s.now) s.now }
-    ensures value { v.new ≡ tables (length v.old) (λ i. add_p 8380417 (row_at v.old i) (ntt_inv (multiply_ntt c.now (row_at s.now i)))) }
+    ensures value { v.new ≡ tables (length v.old) (λ i. add_p 8380417 (row_at v.old i) (ntt_inv (multiply_ntt c.now.c (row_at s.now i)))) }
     ensures below { RowsBelow 8380417 (length v.old) v.new }
 {
     for i in 0..v.len() {
@@ -81,12 +80,11 @@ pub fn add_products(v: &mut [[u32; 256]], c: &[u32; 256], s: &[[u32; 256]])
 }
 
 // Takes c times each row of s from the rows of v.
-pub fn sub_products(v: &mut [[u32; 256]], c: &[u32; 256], s: &[[u32; 256]])
+pub fn sub_products(v: &mut [[u32; 256]], c: &Poly<u32>, s: &[[u32; 256]])
     requires long { length s.now ≡ length v.old }
     requires rows { RowsBelow 8380417 (length v.old) v.old }
-    requires left { T (all_below 8380417 c.now) }
     requires right { RowsBelow 8380417 (length s.now) s.now }
-    ensures value { v.new ≡ tables (length v.old) (λ i. sub_p 8380417 (row_at v.old i) (ntt_inv (multiply_ntt c.now (row_at s.now i)))) }
+    ensures value { v.new ≡ tables (length v.old) (λ i. sub_p 8380417 (row_at v.old i) (ntt_inv (multiply_ntt c.now.c (row_at s.now i)))) }
     ensures below { RowsBelow 8380417 (length v.old) v.new }
 {
     for i in 0..v.len() {

@@ -2,6 +2,7 @@
 // Loops go by row: the rows may be secret, and this form lowers to plain code that reads the same places whatever they hold.
 // Each function is one loop around a step with a law of its own. One function over a trait of steps was tried, and proved: it is for steps on one row
 // alone, and each impl says the step's law again in more lines than the loop has. A closure would be called on rows that may be secret.
+// Bounds of a row's numbers stand in clauses: rows are plain, since one that is lent to be filled may hold anything before.
 #![tactic(auto, using(mldsa_laws::proofs::RowLoops::rows_are))]
 
 ghost use Rattle.std.specs.Prelude.{◌≡◌, length};

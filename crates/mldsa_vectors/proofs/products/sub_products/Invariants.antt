@@ -5,4 +5,4 @@ use Rattle.mldsa_laws.proofs.RowLoops.{RowsDone}
 use Rattle.mldsa_vectors.proofs.products.sub_products.Given as goal
 
 abbrev pub invariant-loop-i : goal.invariant-loop-i
-invariant-loop-i l = RowsDone 8380417 (λ i. sub_p 8380417 (row_at l.initial.v i) (ntt_inv (multiply_ntt l.c (row_at l.s i)))) l.initial.v l.i l.v
+invariant-loop-i l = RowsDone 8380417 (λ i. sub_p 8380417 (row_at l.initial.v i) (ntt_inv (multiply_ntt l.c.c (row_at l.s i)))) l.initial.v l.i l.v
