@@ -1,4 +1,5 @@
 // What is wrong with a line.
+// `Display` and `From` by hand: a derive of the kit's `thiserror` states neither the message nor which variant `From` makes.
 ghost use Rattle.std.specs.Prelude.{◌≡◌};
 
 use lines::failure::Failure;

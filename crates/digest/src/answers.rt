@@ -11,7 +11,7 @@ use lines::three_words;
 use std::alloc::{AllocError, Global};
 use std::fmt;
 
-// What is wrong with a line.
+// What is wrong with a line. `Display` and `From` by hand: a derive of the kit's `thiserror` states neither the message nor which variant `From` makes.
 #[derive(Clone, Copy)]
 pub enum Problem {
     Usage,

@@ -2,6 +2,7 @@
 // without a branch.
 // Noise is drawn here too, so loops go by index: branches and places depend on how many numbers were kept, which is what the standards'
 // rejection shows, and on nothing else.
+// Bounds of a row's numbers stand in clauses: rows are plain, since one that is lent to be filled may hold anything before.
 #![tactic(auto)]
 
 ghost use Rattle.std.specs.Prelude.{◌≡◌, ◌+◌, ◌*◌, ◌<◌, ◌≤◌, ◌++◌, length, MatchOption, T};

@@ -13,14 +13,14 @@ field_name DecapsulationKey = codes "dk"
 field_name Ciphertext = codes "c"
 field_name SharedKey = codes "K"
 
--- how a fault is spelled
-abbrev pub fault_text : Fault → List ℕ
-fault_text (Differs field) = codes "differs at " ++ field_name field
-fault_text (No problem) = codes "no " ++ problem_text problem
-
 -- a field that differs
 abbrev pub differs_at : Field → List ℕ
 differs_at field = codes "differs at " ++ field_name field
+
+-- how a fault is spelled
+abbrev pub fault_text : Fault → List ℕ
+fault_text (Differs field) = differs_at field
+fault_text (No problem) = codes "no " ++ problem_text problem
 
 -- a refusal by its number
 abbrev pub refused_by : ℕ → List ℕ

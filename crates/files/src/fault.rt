@@ -1,4 +1,5 @@
 // What is wrong with a line of outside vectors.
+// `Display` and `From` by hand: a derive of the kit's `thiserror` states neither the message nor which variant `From` makes.
 ghost use Rattle.std.specs.Prelude.{◌≡◌, Some};
 ghost use Rattle.files.specs.declared.fault.Fault.TheVariants.{No};
 ghost use Rattle.files.specs.declared.problem.Problem.TheVariants.{Refused, NoMemory};

@@ -20,7 +20,7 @@ mod tests {
     use std::process::Abort;
     use std::test::Fail;
 
-    // Both sides of an exchange have one key, a spoiled ciphertext gives another, and an encapsulation key whose matrix can't be drawn is refused.
+    // Both sides of an exchange have one key, a spoiled ciphertext gives another.
     fn exchange(rt: &impl Abort, heap: Global, set: u8) -> Result<(), Fail> {
         let p = KemSet::try_from(set)?;
         let mut ek = vec![in heap; 0u8; p.ek_length()]?;
@@ -81,7 +81,7 @@ mod tests {
         Ok(())
     }
 
-    // A line of outside vectors: words, the set, digits, the lengths of the seeds, and the first field that differs, in this order.
+    // What is wrong with a line of outside vectors: words, then the set, digits, the lengths of the seeds.
     fn says(rt: &impl Abort, heap: Global, line: &str, fault: Fault) {
         assert_eq!(rt; check_line::<plain::Plain>(heap, line), Err(fault));
     }

@@ -1,4 +1,5 @@
 // Why an answer has no lines of its own.
+// `Display` and `From` by hand: a derive of the kit's `thiserror` states neither the message nor which variant `From` makes.
 ghost use Rattle.std.specs.Prelude.{◌≡◌, Some};
 ghost use Rattle.files.specs.declared.problem.Problem.TheVariants.{Refused, NoMemory};
 ghost use Rattle.files.specs.Problems.{problem_text};

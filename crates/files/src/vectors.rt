@@ -131,7 +131,8 @@ fn fault(checked: Result<(), Fault>) -> Result<Option<Fault>, AllocError>
     }
 }
 
-// Reads lines till something is wrong with one, and says what, or how many there are. Want of memory, and more lines than can be counted, are errors.
+// Reads lines till something is wrong with one, and says what, or how many there are. Want of memory, and more lines than can be counted, are errors:
+// the count is kept by hand, since `enumerate` has none after the loop and does not say that it fits.
 pub fn run<H: Hash, R: BufRead + Drop, W: Write>(
     heap: Global,
     input: R,

@@ -1,6 +1,6 @@
 // K-PKE.Encrypt and K-PKE.Decrypt.
 // Loops go by row: the rows may be secret, and this form lowers to plain code that reads the same places whatever they hold. Rooms are for the
-// largest set, and what is lent of them is as long as the set asks: memory is fixed. How long rows and ciphertexts are, and that rows' numbers are
+// largest set, and what is lent of them is as long as the set asks: memory is fixed. How long rows, keys and ciphertexts are, and that rows' numbers are
 // below q, stands in clauses: some are lent to be read and some to be written, and a type would hold one kind of lending.
 ghost use Rattle.std.specs.Prelude.{◌≡◌, ◌+◌, ◌*◌, ◌^◌, ◌≤◌, T, ◌++◌, length};
 ghost use Rattle.standards.specs.Lists.{row_at, tables, joined, all_below};

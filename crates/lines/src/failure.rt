@@ -1,5 +1,5 @@
-// What stops an answer. `Display` and `From` are written out, here and at each program's problems: a derive of the kit's `thiserror` states neither the message
-// nor which variant `From` makes.
+// What stops an answer.
+// `Display` and `From` by hand: a derive of the kit's `thiserror` states neither the message nor which variant `From` makes.
 ghost use Rattle.std.specs.Prelude.{◌≡◌};
 
 use std::alloc::AllocError;

@@ -49,7 +49,8 @@ where
     run(heap, input, &mut out)
 }
 
-// The words of a line that has three: they take no memory, where `words::line_words` does for a line of any number.
+// The words of a line that has three: they take no memory, where `words::line_words` does for a line of any number. Std's words serve: `LineWords` adds that
+// they can be counted, which three need not be.
 #[tactic(auto, using(crate::proofs::Split::next_word))]
 pub fn three_words(line: &str) -> Option<(&str, &str, &str)>
     ensures { MatchOption result (length (words_of line.now) ≢ 3) (λ w. words_of line.now ≡ w.0.now ∷ w.1.now ∷ w.2.now ∷ []) }

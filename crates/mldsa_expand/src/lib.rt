@@ -31,7 +31,7 @@ pub fn expand_a<H: Hash>(p: DsaSet, rho: &[u8], a: &mut [[u32; 256]]) -> bool
     full
 }
 
-// ExpandS: small polynomials number `first` and on: whether every draw was full.
+// ExpandS: small polynomials number `first` and on: whether every draw was full. eta is a number with a clause, as in RejBoundedPoly.
 pub fn expand_s<H: Hash>(eta: usize, rho: &[u8], first: usize, s: &mut [[u32; 256]]) -> bool
     requires eta { (eta ≡ 2) ⊎ (eta ≡ 4) }
     requires few { first + length s.old ≤ 256 }

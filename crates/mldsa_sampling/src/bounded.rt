@@ -1,5 +1,7 @@
 // RejBoundedPoly: small numbers, drawn by rejection out of half bytes.
-// eta is a value: the standard has two cases by it, in two functions. A constant in the type would leave both, and add a choice of the type.
+// eta is a number with a clause: two functions ask for it, and a type with its conversion from a set would be more lines than the two clauses.
+// It is a value: the standard has two cases by it, in two functions. A constant in the type would leave both, and add a choice of the type.
+// Bounds of a row's numbers stand in clauses: rows are plain, since one that is lent to be filled may hold anything before.
 ghost use Rattle.std.specs.Prelude.{◌≡◌, ◌<◌, T, ◌⊎◌, ◌++◌, length, ◌==◌};
 ghost use Rattle.standards.specs.Lists.{table, at, all_below};
 ghost use Rattle.standards.specs.MlDsaParts.{half_byte_fits, coeff_from_half_byte, rej_bounded_poly};

@@ -1,4 +1,5 @@
 // RejNTTPoly: numbers below q, drawn by rejection out of a public stream.
+// Bounds of a row's numbers stand in clauses: rows are plain, since one that is lent to be filled may hold anything before.
 ghost use Rattle.std.specs.Prelude.{◌≡◌, T, ◌++◌, length, ◌==◌};
 ghost use Rattle.standards.specs.Lists.{table, at, all_below};
 ghost use Rattle.standards.specs.MlDsaParts.{rej_ntt_poly};

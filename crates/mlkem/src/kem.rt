@@ -2,6 +2,7 @@
 // Loops go by row: the rows may be secret, and this form lowers to plain code that reads the same places whatever they hold. Rooms are for the
 // largest set, and what is lent of them is as long as the set asks: memory is fixed.
 // Bounds of a row's numbers stand in clauses: rows are plain, since one that is lent to be filled may hold anything before.
+// How long keys and ciphertexts are stands in clauses: some are lent to be read and some to be written, and a type would hold one kind of lending.
 ghost use Rattle.std.specs.Prelude.{◌≡◌, ◌+◌, ◌*◌, ◌≤◌, ◌++◌, length, if◌then◌else◌};
 ghost use Rattle.standards.specs.Lists.{row_at, tables, joined};
 ghost use Rattle.standards.specs.Bytes.{pack};

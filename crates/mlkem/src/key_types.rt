@@ -1,5 +1,6 @@
 // The two keys: lent bytes that travel with their set, and what is read from them. Rooms are for the largest set, since memory is fixed.
 // Bounds of a row's numbers stand in clauses: rows are plain, since one that is lent to be filled may hold anything before.
+// How long keys and ciphertexts are stands in clauses: some are lent to be read and some to be written, and a type would hold one kind of lending.
 ghost use Rattle.std.specs.Prelude.{◌≡◌, ◌+◌, ◌*◌, ◌≤◌, length, take, OnOk, IfOk, if◌then◌else◌, nat_eq};
 ghost use Rattle.standards.specs.Lists.{same, joined, tables};
 ghost use Rattle.standards.specs.Bytes.{pack};

@@ -44,7 +44,8 @@ impl Transform for u16 {
     }
 }
 
-// BaseCaseMultiply: the product of a0 + a1 x and b0 + b1 x where x * x is gamma. A sum of two products is below 2^25.
+// BaseCaseMultiply: the product of a0 + a1 x and b0 + b1 x where x * x is gamma. A sum of two products is below 2^25. The modulus is a literal here, as in
+// `number`.
 fn base_case_multiply(a0: u16, a1: u16, b0: u16, b1: u16, gamma: u16) -> (u16, u16)
     requires first { (a0 < 3329) × (a1 < 3329) }
     requires second { (b0 < 3329) × (b1 < 3329) }

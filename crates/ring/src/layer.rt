@@ -1,6 +1,7 @@
 // One layer of a transform, in place: blocks of 2 `len` numbers, each with a factor of its own, and in each block `len` butterflies.
 // Loops go by index: the numbers may be secret, and this form lowers to plain code whose branches and places are known from the layer alone.
 // Clauses inside this crate speak of `map value`, which goes word by word as the loops do; those of its public functions speak of `numbers`.
+// Bounds of a row's numbers stand in clauses: rows are plain, since one that is lent to be filled may hold anything before.
 ghost use Rattle.std.specs.Prelude.{◌≡◌, ◌+◌, ◌*◌, ◌/◌, ◌^◌, ◌<◌, ◌≤◌, map};
 ghost use Rattle.standards.specs.Lists.{at};
 ghost use Rattle.standards.specs.Ring.{Poly};

@@ -1,7 +1,8 @@
 // Runs outside vectors, a line of standard input each, by the hashes of FIPS 202:
 //     kem SET d z m ek dk c K
 // SET is 1, 2 or 3; each field is hexadecimal digits, or `-` for none. A line is checked by making its keys, encapsulating and decapsulating.
-// It prints `line 5 differs at c`, `line 5 no 3` for a call that refuses, `line 5 no 7` for other words, and stops there; or, at the end, `read 12`.
+// It prints `line 5 differs at c`, or `line 5 no 7` for other words (`no 1` for the set, `no 2` for the length of a seed or the coin, `no 4` for a draw that fell
+// short), and stops there; or, at the end, `read 12`.
 #![tactic(auto)]
 
 ghost use Rattle.std.specs.Prelude.{IfSome, OnOk};
