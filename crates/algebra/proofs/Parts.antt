@@ -75,11 +75,20 @@ put_on a m n front old mid new is l e =
 pub put_end : (n : ℕ) (front old whole : List ℕ) → whole ≡ front ++ drop n old → length old ≤ n → whole ≡ front
 put_end n front old whole is l = is ∙ (ap (λ x. front ++ x) (drop_all n old l) ∙ append-nil front)
 
--- two parts, and four
+-- two parts, three, and four
 pub put_two : (a m0 m1 n : ℕ) (old x0 x1 y0 y1 : List ℕ) → 0 + m0 ≡ a → a + m1 ≡ n → length old ≤ n → length x0 ≡ a → x0 ≡ y0 → x1 ≡ y1 →
     put_mid a m1 (put_mid 0 m0 old x0) x1 ≡ y0 ++ y1
 put_two a m0 m1 n old x0 x1 y0 y1 e0 e1 l l0 h0 h1 =
     put_end n (x0 ++ x1) old _ (put_on a m1 n x0 old (put_mid 0 m0 old x0) x1 (put_on 0 m0 a [] old old x0 refl refl e0) l0 e1) l ∙ ap₂ (λ x y. x ++ y) h0 h1
+
+pub put_three : (a b m0 m1 m2 n : ℕ) (old x0 x1 x2 y0 y1 y2 : List ℕ) → 0 + m0 ≡ a → a + m1 ≡ b → b + m2 ≡ n → length old ≤ n →
+    length x0 ≡ a → a + length x1 ≡ b → x0 ≡ y0 → x1 ≡ y1 → x2 ≡ y2 → put_mid b m2 (put_mid a m1 (put_mid 0 m0 old x0) x1) x2 ≡ y0 ++ (y1 ++ y2)
+put_three a b m0 m1 m2 n old x0 x1 x2 y0 y1 y2 e0 e1 e2 l l0 l1 h0 h1 h2 =
+    let w0 = put_on 0 m0 a [] old old x0 refl refl e0 in
+    let w1 = put_on a m1 b x0 old _ x1 w0 l0 e1 in
+    let n1 : length (x0 ++ x1) ≡ b = length-append x0 x1 ∙ omega arith in
+    put_end n ((x0 ++ x1) ++ x2) old _ (put_on b m2 n (x0 ++ x1) old _ x2 w1 n1 e2) l ∙
+    (append_assoc x0 x1 x2 ∙ ap₂ (λ x y. x ++ y) h0 (ap₂ (λ x y. x ++ y) h1 h2))
 
 pub put_four : (a b d m0 m1 m2 m3 n : ℕ) (old x0 x1 x2 x3 y0 y1 y2 y3 : List ℕ) → 0 + m0 ≡ a → a + m1 ≡ b → b + m2 ≡ d → d + m3 ≡ n → length old ≤ n →
     length x0 ≡ a → a + length x1 ≡ b → b + length x2 ≡ d → x0 ≡ y0 → x1 ≡ y1 → x2 ≡ y2 → x3 ≡ y3 →

@@ -1,3 +1,2 @@
 mod Told
-mod Words
-mod Reports
+mod Inputs

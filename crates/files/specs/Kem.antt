@@ -1,13 +1,9 @@
 -- What the program `kem` answers of a word for the set and of its files, over any hashes: the first number that refuses, or lines. Assumes nothing.
-use Rattle.std.specs.Prelude.{ℕ, Bool, true, cond, not, ◌&&◌, ◌||◌, List, ◌++◌, length, Option, ◌==◌}
+use Rattle.std.specs.Prelude.{ℕ, true, ◌&&◌, ◌||◌, List, ◌++◌, Option}
 use Rattle.standards.specs.Hashes.{Hashes}
 use Rattle.standards.specs.MlKem.{ek_length, dk_length, text_length, ek_of, dk_of, encaps_key, encaps_text, decaps}
-use Rattle.standards.specs.Calls.{is_set, kem_of, kem_keys_verdict, encaps_verdict, decaps_verdict}
-use Rattle.files.specs.Texts.{set_of, unreadable, bytes_in, hex_line, refusal_line, answered}
-
--- a file of 32 bytes
-abbrev pub is_seed : Option (List ℕ) → Bool
-is_seed file = length (bytes_in file) == 32
+use Rattle.standards.specs.Calls.{kem_of, kem_keys_verdict, encaps_verdict, decaps_verdict}
+use Rattle.files.specs.Texts.{set_of, unreadable, bytes_in, is_seed, hex_line, answered, first_of}
 
 -- kem keys SET D Z: the encapsulation key and the decapsulation key
 abbrev pub call_keys : Hashes → ℕ → List ℕ → List ℕ → List ℕ
@@ -24,12 +20,6 @@ call_encaps h s ek m =
 -- kem decaps SET SK TEXT: the key
 abbrev pub call_decaps : Hashes → ℕ → List ℕ → List ℕ → List ℕ
 call_decaps h s dk c = answered (decaps_verdict h s dk c) (hex_line (decaps h (kem_of s) dk c))
-
--- The causes that stand before a call's own, in this order: no such set, a file that can't be used, a seed or coin that isn't 32 bytes.
--- If there is none, what the call gives
-abbrev pub first_of : List ℕ → Bool → Bool → List ℕ → List ℕ
-first_of set unread seeds lines =
-    cond (not (is_set (set_of set))) (refusal_line 1) (cond unread (refusal_line 7) (cond (not seeds) (refusal_line 2) lines))
 
 abbrev pub keys_answer : Hashes → List ℕ → Option (List ℕ) → Option (List ℕ) → List ℕ
 keys_answer h set d z = first_of set (unreadable d || unreadable z) (is_seed d && is_seed z) (call_keys h (set_of set) (bytes_in d) (bytes_in z))

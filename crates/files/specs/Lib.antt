@@ -1,6 +1,4 @@
 pub mod Texts
 pub mod Kem
+pub mod Dsa
 pub mod Problems
-pub mod Faults
-pub mod Vectors
-pub mod Fields

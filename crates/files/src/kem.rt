@@ -13,6 +13,7 @@ use crate::texts::{both, one_line, seed, set_number, told, two_lines};
 use hash::Hash;
 use sets::types::KemSet;
 use std::alloc::{AllocError, Global};
+use suite::{Exchange, Over};
 
 // The lines of a pair of keys.
 fn call_keys<H: Hash>(heap: Global, set: u8, d: &[u8; 32], z: &[u8; 32]) -> Result<Vec<u8>, Problem>
@@ -21,7 +22,7 @@ fn call_keys<H: Hash>(heap: Global, set: u8, d: &[u8; 32], z: &[u8; 32]) -> Resu
     let p = KemSet::try_from(set)?;
     let mut ek = vec![in heap; 0u8; p.ek_length()]?;
     let mut dk = vec![in heap; 0u8; p.dk_length()]?;
-    mlkem::keys::<H>(set, d, z, ek.as_mut_slice(), dk.as_mut_slice())?;
+    Over::<H>::keys(set, d, z, ek.as_mut_slice(), dk.as_mut_slice())?;
     Ok(two_lines(heap, ek.as_slice(), dk.as_slice())?)
 }
 
@@ -32,7 +33,7 @@ fn call_encaps<H: Hash>(heap: Global, set: u8, ek: &[u8], m: &[u8; 32]) -> Resul
     let p = KemSet::try_from(set)?;
     let mut key = [0u8; 32];
     let mut text = vec![in heap; 0u8; p.text_length()]?;
-    mlkem::encapsulate::<H>(set, ek, m, &mut key, text.as_mut_slice())?;
+    Over::<H>::encapsulate(set, ek, m, &mut key, text.as_mut_slice())?;
     Ok(two_lines(heap, &key, text.as_slice())?)
 }
 
@@ -41,7 +42,7 @@ fn call_decaps<H: Hash>(heap: Global, set: u8, dk: &[u8], c: &[u8]) -> Result<Ve
     ensures { Answers result (call_decaps H.Hash.hashes set dk.now c.now) }
 {
     let mut key = [0u8; 32];
-    mlkem::decapsulate::<H>(set, dk, c, &mut key)?;
+    Over::<H>::decapsulate(set, dk, c, &mut key)?;
     Ok(one_line(heap, &key)?)
 }
 

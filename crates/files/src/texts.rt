@@ -1,7 +1,7 @@
 // The words, files and lines of the programs.
 ghost use Rattle.std.specs.Prelude.{◌≡◌, ℕ, true, false, List, ◌++◌, length, IfOk, MatchResult, OnOk, ◌≢◌, ◌||◌};
 ghost use Rattle.standards.specs.Calls.{is_set};
-ghost use Rattle.files.specs.Texts.{most_text, set_of, text_of, unreadable, bytes_in, hex_line};
+ghost use Rattle.files.specs.Texts.{most_text, set_of, text_of, unreadable, bytes_in, fits, hex_line};
 ghost use Rattle.files.specs.Problems.{IsRefusal, Answers};
 
 use crate::problem::Problem;
@@ -33,6 +33,16 @@ pub fn bytes(heap: Global, file: Option<&[u8]>) -> Result<Vec<u8>, Problem>
         return Ok(Vec::new(heap));
     }
     read_hex(heap, text)?.ok_or(Problem::Unreadable)
+}
+
+// A file that is no longer than the program takes. Of one that is there are no bytes; where none would do, it is refused by this.
+pub fn fits(file: Option<&[u8]>) -> Result<(), Refusal>
+    ensures { MatchResult result (λ _. fits (text_of file.entry) ≡ true) (λ e. (e ≡ Refusal.Length) × (fits (text_of file.entry) ≡ false)) }
+{
+    match file {
+        Some(text) if text.len() > MOST_TEXT => Err(Refusal::Length),
+        _ => Ok(()),
+    }
 }
 
 // The bytes of two files.

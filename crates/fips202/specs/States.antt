@@ -2,6 +2,9 @@
 use Rattle.std.specs.Prelude.{◌≡◌, ℕ, ◌+◌, List}
 use Rattle.standards.specs.Lists.{table}
 use Rattle.fips202_laws.specs.Sponges.{absorbed_from, stream_from, read_from, Absorbs}
+use Rattle.hash.specs.Streams.{Four}
+use Rattle.keccak_lanes.specs.FourStates.{state_in}
+use Rattle.fips202.specs.declared.four.FourSqueezer.{FourSqueezer}
 use Rattle.fips202.specs.declared.sponge.Sponge.{Sponge}
 use Rattle.fips202.specs.declared.sponge.Squeezer.{Squeezer}
 
@@ -28,3 +31,10 @@ Counts {rate} s n t = (suffix : ℕ) (m : List ℕ) → absorbed suffix t m ≡ 
 -- what is still to come
 abbrev pub rest : {rate : ℕ} → Squeezer rate → ℕ → ℕ
 rest {rate} s = read_from rate s.lanes s.place
+
+-- what is still to come of stream l of four
+abbrev pub rest_of : {rate : ℕ} → ℕ → FourSqueezer rate → ℕ → ℕ
+rest_of {rate} l s = read_from rate (state_in l s.words) s.place
+
+abbrev pub rests : {rate : ℕ} → FourSqueezer rate → Four
+rests s = record { first = rest_of 0 s; second = rest_of 1 s; third = rest_of 2 s; fourth = rest_of 3 s }

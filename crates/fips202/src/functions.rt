@@ -1,15 +1,15 @@
 // The four functions: SHA3 adds the bits 01 to a message and SHAKE the bits 1111, each before the padding's first bit.
-ghost use Rattle.std.specs.Prelude.{◌≡◌, ℕ, length};
+ghost use Rattle.std.specs.Prelude.{◌≡◌, ℕ, ◌%◌, ◌<◌, ◌≤◌, [], length};
 ghost use Rattle.standards.specs.Lists.{table};
 ghost use Rattle.standards.specs.Hashes.{Hashes};
-ghost use Rattle.standards.specs.Fips202.{fips202};
+ghost use Rattle.standards.specs.Fips202.{sponge, fips202};
 ghost use Rattle.standards.specs.Promises.{HashesAreFair};
 ghost use Rattle.standards.specs.Cases.{DigestCases};
 ghost use Rattle.fips202_laws.proofs.Fairness.{hashes_are_fair};
 ghost use Rattle.fips202.specs.States as states;
 
+use crate::four::FourSqueezer;
 use crate::sponge::{Sponge, Squeezer};
-use hash::in_turn::InTurn;
 use hash::{Absorb, Digest, FourReaders, Hash, Reader, Xof};
 
 const SHA3: u8 = 0x06;
@@ -21,6 +21,14 @@ impl<const RATE: usize> Reader for Squeezer<RATE> {
 
     fn squeeze(&mut self, out: &mut [u8]) {
         self.squeeze(out);
+    }
+}
+
+impl<const RATE: usize> FourReaders for FourSqueezer<RATE> {
+    ghost rests = { states.rests };
+
+    fn squeeze(&mut self, a: &mut [u8], b: &mut [u8], c: &mut [u8], d: &mut [u8]) {
+        self.squeeze(a, b, c, d);
     }
 }
 
@@ -95,9 +103,9 @@ impl Hash for Fips202 {
 
     type Sha3_512 = Sha3_512;
 
-    type FourShake128 = InTurn<Self::Reader128>;
+    type FourShake128 = FourSqueezer<168>;
 
-    type FourShake256 = InTurn<Self::Reader256>;
+    type FourShake256 = FourSqueezer<136>;
 
     ghost hashes = { fips202 };
 
@@ -128,22 +136,24 @@ impl Hash for Fips202 {
     }
 
     fn four_shake128(a: &[u8], b: &[u8], c: &[u8], d: &[u8]) -> Self::FourShake128 {
-        InTurn {
-            first: Self::shake128(a, &[]),
-            second: Self::shake128(b, &[]),
-            third: Self::shake128(c, &[]),
-            fourth: Self::shake128(d, &[]),
-        }
+        FourSqueezer::after(soaked(a), soaked(b), soaked(c), soaked(d), SHAKE)
     }
 
     fn four_shake256(a: &[u8], b: &[u8], c: &[u8], d: &[u8]) -> Self::FourShake256 {
-        InTurn {
-            first: Self::shake256(a, &[]),
-            second: Self::shake256(b, &[]),
-            third: Self::shake256(c, &[]),
-            fourth: Self::shake256(d, &[]),
-        }
+        FourSqueezer::after(soaked(a), soaked(b), soaked(c), soaked(d), SHAKE)
     }
+}
+
+// A sponge that has taken one message.
+fn soaked<const RATE: usize>(m: &[u8]) -> Sponge<RATE>
+    requires rate_nonzero { 0 < RATE }
+    requires value { RATE % 8 ≡ 0 }
+    requires bound { RATE ≤ 200 }
+    ensures { states.stream 31 result [] ≡ sponge RATE 31 m.now }
+{
+    let mut sponge = Sponge::new();
+    sponge.absorb(m);
+    sponge
 }
 
 // FIPS 202's functions give bytes, and of the right length.

@@ -4,7 +4,7 @@ ghost use Rattle.std.specs.Prelude.{◌≡◌, ◌+◌, ◌*◌, ◌%◌, ◌<�
 ghost use Rattle.standards.specs.Lists.{table};
 ghost use Rattle.standards.specs.Fips202.{lane_of, state_byte};
 ghost use Rattle.hash.specs.Streams.{later};
-ghost use Rattle.fips202_laws.specs.Sponges.{mixed_byte, mixed_lanes};
+ghost use Rattle.fips202_laws.specs.Sponges.{read_from, mixed_byte, mixed_lanes};
 
 use keccak::permute;
 
@@ -39,7 +39,7 @@ fn mix_byte(lanes: &mut [u64; 25], place: usize, b: u8)
 
 // The bytes of the lanes, the lowest of each first.
 #[tactic(auto, using(algebra::proofs::Tables::is_table))]
-fn unpacked(lanes: &[u64; 25]) -> [u8; 200]
+pub(crate) fn unpacked(lanes: &[u64; 25]) -> [u8; 200]
     ensures { result ≡ table 200 (state_byte lanes.now) }
 {
     let mut bytes = [0; 200];
@@ -122,16 +122,27 @@ impl<const RATE: usize> Sponge<RATE> {
         }
     }
 
-    // Ends the message: the suffix behind it, and the padding's last bit at the end of the block.
-    pub fn finish(self, suffix: u8) -> Squeezer<RATE>
+    // The lanes with the end of the message in them: the suffix behind it, and the padding's last bit at the end of the block. What is read from the end
+    // of this block on comes out of the permutation.
+    pub(crate) fn padded(self, suffix: u8) -> [u64; 25]
         requires { suffix < 128 }
-        ensures { rest result ≡ stream suffix self.entry [] }
+        ensures { read_from RATE result RATE ≡ stream suffix self.entry [] }
     {
         let Sponge { mut lanes, place } = self;
         mix_byte(&mut lanes, place, suffix);
         mix_byte(&mut lanes, RATE - 1, 128);
-        permute(&mut lanes);
-        Squeezer { lanes, place: 0 }
+        lanes
+    }
+
+    // Ends the message. No byte is left to read before the next permutation.
+    pub fn finish(self, suffix: u8) -> Squeezer<RATE>
+        requires { suffix < 128 }
+        ensures { rest result ≡ stream suffix self.entry [] }
+    {
+        Squeezer {
+            lanes: self.padded(suffix),
+            place: RATE,
+        }
     }
 }
 

@@ -14,7 +14,7 @@ const RHO: [u32; 25] = [
 ];
 
 // What iota adds to lane 0 in each round.
-const ROUND_CONSTANTS: [u64; 24] = [
+pub const ROUND_CONSTANTS: [u64; 24] = [
     0x0000000000000001,
     0x0000000000008082,
     0x800000000000808a,

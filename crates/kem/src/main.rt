@@ -10,25 +10,20 @@ ghost use Rattle.standards.specs.Fips202.{fips202};
 ghost use Rattle.files.specs.Texts.{text_of};
 ghost use Rattle.files.specs.Kem.{keys_answer, encaps_answer, decaps_answer};
 
+use files::input::read;
 use files::kem::{decaps, encaps, keys};
-use files::texts::MOST_TEXT;
 use fips202::functions::Fips202;
 use std::alloc::{AllocError, Global};
 use std::fs::File;
-use std::io::{ErrorKind, Read, Write};
+use std::io::Write;
 use std::{env, io};
 
 const USAGE: &str = "usage: kem keys SET D Z | kem encaps SET PK M | kem decaps SET SK TEXT\n";
 
-// The text of a file, up to a character more than is taken; nothing, if it can't be read.
+// The text of a file; nothing, if it can't be read.
 fn text(rt: &HostRuntime, path: &str) -> io::Result<Option<Vec<u8>>> {
-    let Ok(file) = File::open(rt, path) else {
-        return Ok(None);
-    };
-    let mut text = Vec::new(rt.alloc());
-    match file.take(MOST_TEXT as u64 + 1).read_to_end(&mut text) {
-        Ok(_) => Ok(Some(text)),
-        Err(e) if e.kind() == ErrorKind::OutOfMemory => Err(e),
+    match File::open(rt, path) {
+        Ok(file) => read(rt.alloc(), file),
         Err(_) => Ok(None),
     }
 }

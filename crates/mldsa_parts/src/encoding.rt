@@ -9,7 +9,14 @@ ghost use Rattle.standards.specs.MlDsaParts.{bit_pack, bit_unpack};
 
 use crate::Q;
 use crate::interval::Interval;
-use packing::{pack, unpack};
+use packing::{Width, pack, unpack};
+use std::marker::PhantomData;
+
+// Bits of a number of t1.
+pub const T1_BITS: Width<u32> = Width {
+    bits: 10,
+    of: PhantomData,
+};
 
 // 256 numbers of d bits, each the interval's top less what is packed, as 32 d bytes.
 pub fn bit_pack(interval: Interval, f: &[u32; 256], out: &mut [u8])

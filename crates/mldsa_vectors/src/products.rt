@@ -28,6 +28,19 @@ pub fn ntt_rows(v: &mut [[u32; 256]])
     }
 }
 
+// Adds the rows of s to those of t.
+pub fn add_rows(t: &mut [[u32; 256]], s: &[[u32; 256]])
+    requires long { length s.now ≡ length t.old }
+    requires left { RowsBelow 8380417 (length t.old) t.old }
+    requires right { RowsBelow 8380417 (length s.now) s.now }
+    ensures value { t.new ≡ tables (length t.old) (λ i. add_p 8380417 (row_at t.old i) (row_at s.now i)) }
+    ensures below { RowsBelow 8380417 (length t.old) t.new }
+{
+    for i in 0..t.len() {
+        add(&mut t[i], &s[i]);
+    }
+}
+
 // The matrix a, row after row, times s, transformed back.
 pub fn matrix_product(a: &[[u32; 256]], s: &[[u32; 256]], w: &mut [[u32; 256]])
     requires within { length s.now * length w.old ≤ length a.now }

@@ -51,3 +51,29 @@ pub fn decompress(d: usize, f: &mut [u16; 256])
         f[i] = decompress_number(d, f[i]);
     }
 }
+
+// Every number at each width of the sets, beside the nearest whole number found by quotient and remainder.
+#[cfg(test)]
+mod tests {
+    use super::compress_number;
+    use std::test::Fail;
+
+    // 2^d x / 3329, one more where the remainder is over a half, modulo 2^d. No remainder is a half, since 3329 is odd.
+    fn nearest(d: usize, x: u16) -> u16
+        requires { d ≤ 12 }
+    {
+        let n = u32::from(x) << d;
+        let up = u32::from(n % 3329 > 1664);
+        ((n / 3329 + up) & ((1u32 << d) - 1)) as u16
+    }
+
+    #[test]
+    fn every_number(rt: HostRuntime) -> Result<(), Fail> {
+        for d in [1, 4, 5, 10, 11] {
+            for x in 0..3329 {
+                assert_eq!(rt; compress_number(d, x), nearest(d, x));
+            }
+        }
+        Ok(())
+    }
+}

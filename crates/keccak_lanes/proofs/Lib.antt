@@ -1,0 +1,3 @@
+mod Vectors
+mod Rounds
+mod Words

@@ -1,0 +1,2 @@
+mod ProductRows
+mod WrittenKeys

@@ -1,0 +1,4 @@
+mod SecretRows
+mod StepRows
+mod Responses
+mod Loop

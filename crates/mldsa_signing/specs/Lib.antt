@@ -1,0 +1,2 @@
+pub mod KnownRows
+pub mod Responses

@@ -1,0 +1,3 @@
+mod Verdicts
+mod Exchanging
+mod Signatures

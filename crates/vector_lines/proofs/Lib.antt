@@ -1,0 +1,3 @@
+mod Words
+mod Taken
+mod Reports
