@@ -1,0 +1,9 @@
+// The calls of the static library, and the lengths of each set by its number less 1.
+#include "../include/wattleauger.h"
+
+static const size_t EK[3] = {WATTLEAUGER_KEM512_EK, WATTLEAUGER_KEM768_EK, WATTLEAUGER_KEM1024_EK};
+static const size_t DK[3] = {WATTLEAUGER_KEM512_DK, WATTLEAUGER_KEM768_DK, WATTLEAUGER_KEM1024_DK};
+static const size_t TEXT[3] = {WATTLEAUGER_KEM512_TEXT, WATTLEAUGER_KEM768_TEXT, WATTLEAUGER_KEM1024_TEXT};
+static const size_t PK[3] = {WATTLEAUGER_DSA44_PK, WATTLEAUGER_DSA65_PK, WATTLEAUGER_DSA87_PK};
+static const size_t SK[3] = {WATTLEAUGER_DSA44_SK, WATTLEAUGER_DSA65_SK, WATTLEAUGER_DSA87_SK};
+static const size_t SIG[3] = {WATTLEAUGER_DSA44_SIG, WATTLEAUGER_DSA65_SIG, WATTLEAUGER_DSA87_SIG};
