@@ -9,7 +9,7 @@ use std::alloc::AllocError;
 use std::fmt;
 
 // The number of a file that can't be used: the first after the refusals' own.
-const UNREADABLE: u32 = 7;
+pub(crate) const UNREADABLE: u32 = 7;
 
 // A refusal, a file that can't be read or isn't hexadecimal, or want of memory. That is a variant here, and no type around the problem as in `lines`:
 // refusals, a type of another crate, come in by `?`, which only a type of this crate can take in.

@@ -1,10 +1,10 @@
 // The words, files and lines of the programs.
 ghost use Rattle.std.specs.Prelude.{◌≡◌, ℕ, true, false, List, ◌++◌, length, IfOk, MatchResult, OnOk, ◌≢◌, ◌||◌};
 ghost use Rattle.standards.specs.Calls.{is_set};
-ghost use Rattle.files.specs.Texts.{most_text, set_of, text_of, unreadable, bytes_in, fits, hex_line};
+ghost use Rattle.files.specs.Texts.{most_text, set_of, text_of, unreadable, bytes_in, fits, hex_line, refusal_line};
 ghost use Rattle.files.specs.Problems.{IsRefusal, Answers};
 
-use crate::problem::Problem;
+use crate::problem::{Problem, UNREADABLE};
 use hex_digits::{read_hex, write_hex};
 use sets::types::Refusal;
 use std::alloc::{AllocError, Global};
@@ -92,13 +92,21 @@ pub fn two_lines(heap: Global, a: &[u8], b: &[u8]) -> Result<Vec<u8>, AllocError
     Ok(text)
 }
 
+// The line of a refusal.
+pub fn refusal(heap: Global, n: u32) -> Result<Vec<u8>, AllocError>
+    ensures { IfOk result (λ v. v.items ≡ refusal_line n) }
+{
+    Ok(format!(in heap; "no {n}\n")?.into_bytes())
+}
+
 // What is printed: the lines, or that of the refusal. Want of memory prints nothing, and is passed on.
 pub fn told(heap: Global, lines: Result<Vec<u8>, Problem>) -> Result<Vec<u8>, AllocError>
     ensures { (text : List ℕ) → Answers lines text → IfOk result (λ v. v.items ≡ text) }
 {
     match lines {
         Ok(text) => Ok(text),
+        Err(Problem::Refused(r)) => refusal(heap, u32::from(r)),
+        Err(Problem::Unreadable) => refusal(heap, UNREADABLE),
         Err(Problem::NoMemory(e)) => Err(e),
-        Err(refusal) => Ok(format!(in heap; "no {refusal}\n")?.into_bytes()),
     }
 }

@@ -51,9 +51,9 @@ pub fn decode_rows(key: &[u8], v: &mut [[u16; 256]])
     }
 }
 
-// The matrix of rho, row by row with stride k, if every draw is full. If not, nothing is said of a. The matrix is public, so the loop walks its rows.
+// The first rows of a, as many as the set's matrix has, in order with stride k. The matrix is public, so the loop walks its rows.
 #[tactic(auto, using(algebra::proofs::RowArrays::full_all))]
-pub fn expand<H: Hash>(p: KemSet, rho: &[u8], a: &mut [[u16; 256]]) -> Result<(), Refusal>
+fn draw_entries<H: Hash>(p: KemSet, rho: &[u8], a: &mut [[u16; 256]]) -> Result<(), Refusal>
     requires { length a.old ≡ p.k * p.k }
     ensures drawn { verdict_of result ≡ (if matrix_drawn H.Hash.hashes (kem_numbers p) rho.now then 0 else 4) }
     ensures value { OnOk result (RowsAre (p.k * p.k) (entry_at H.Hash.hashes p.k rho.now) a.new) }
@@ -64,4 +64,14 @@ pub fn expand<H: Hash>(p: KemSet, rho: &[u8], a: &mut [[u16; 256]]) -> Result<()
         *row = sample_ntt::<H>(rho, &entry).ok_or(Refusal::Draw)?;
     }
     Ok(())
+}
+
+// The matrix of rho, row by row with stride k, if every draw is full. If not, nothing is said of a. Rows behind the matrix may be lent too.
+pub fn expand<H: Hash>(p: KemSet, rho: &[u8], a: &mut [[u16; 256]]) -> Result<(), Refusal>
+    requires { p.k * p.k ≤ length a.old }
+    ensures drawn { verdict_of result ≡ (if matrix_drawn H.Hash.hashes (kem_numbers p) rho.now then 0 else 4) }
+    ensures value { OnOk result (RowsAre (p.k * p.k) (entry_at H.Hash.hashes p.k rho.now) a.new) }
+    ensures below { OnOk result (RowsBelow 3329 (p.k * p.k) a.new) }
+{
+    draw_entries::<H>(p, rho, &mut a[..p.k * p.k])
 }

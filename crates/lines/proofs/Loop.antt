@@ -1,5 +1,5 @@
 -- What the loop over the lines carries on.
-use Rattle.std.proofs.Common.{◌≡◌, ℕ, ◌<◌, List, [], ◌++◌, length, Option, None, Some, IfSome, IsSome, refl, sym, ap, ◌∙◌, append_assoc, append-nil}
+use Rattle.std.proofs.Common.{◌≡◌, ℕ, ◌<◌, List, [], ◌++◌, length, Option, None, Some, Result, Ok, Err, OnOk, IfSome, IsSome, refl, sym, ap, ◌∙◌, append_assoc, append-nil}
 use Rattle.std.specs.Io.BufRead.{drop_through, first_line, DropsThrough}
 use Rattle.std.specs.Io.KnownBytes.{Appends, IsAtEnd}
 use Rattle.std.specs.Str.Lines.{lines}
@@ -21,17 +21,23 @@ pub some_text : {Q : Type 0} (o : Option (List ℕ)) → IsSome o → ((text : L
 some_text None h then = absurd (false≢true h)
 some_text (Some text) h then = then text refl
 
+-- what is known of a writer grows by nothing, or by one part after another
+pub appends_nil : (known : Option (List ℕ)) → Appends known known []
+appends_nil None = tt
+appends_nil (Some xs) = sym (append-nil xs)
+
+pub appends_append : (old mid new : Option (List ℕ)) (xs ys : List ℕ) → Appends old mid xs → Appends mid new ys → Appends old new (xs ++ ys)
+appends_append None mid new xs ys a b = tt
+appends_append (Some o) None new xs ys a b = absurd a
+appends_append (Some o) (Some m) None xs ys a b = absurd b
+appends_append (Some o) (Some m) (Some n) xs ys a b = b ∙ (ap (λ l. l ++ ys) a ∙ append_assoc o xs ys)
+
+-- what was written before, and then a last part, if that could be written
+pub appends_last : {A E : Type 0} (old mid new : Option (List ℕ)) (xs ys : List ℕ) (r : Result A E) → Appends old mid xs → OnOk r (Appends mid new ys) → OnOk r (Appends old new (xs ++ ys))
+appends_last old mid new xs ys (Ok v) a b = appends_append old mid new xs ys a b
+appends_last old mid new xs ys (Err e) a b = tt
+
 module _ (answers : List ℕ → List ℕ → Type 0) where
-  appends_nil : (known : Option (List ℕ)) → Appends known known []
-  appends_nil None = tt
-  appends_nil (Some xs) = sym (append-nil xs)
-
-  appends_append : (old mid new : Option (List ℕ)) (xs ys : List ℕ) → Appends old mid xs → Appends mid new ys → Appends old new (xs ++ ys)
-  appends_append None mid new xs ys a b = tt
-  appends_append (Some o) None new xs ys a b = absurd a
-  appends_append (Some o) (Some m) None xs ys a b = absurd b
-  appends_append (Some o) (Some m) (Some n) xs ys a b = b ∙ (ap (λ l. l ++ ys) a ∙ append_assoc o xs ys)
-
   pub start : (known input left : Option (List ℕ)) → left ≡ input → Carries answers known known input left
   start known None left e = tt
   start known (Some text) left e = (text, e, record { done = []; written = appends_nil known; onward = λ more a. a })

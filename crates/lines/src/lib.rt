@@ -1,7 +1,8 @@
 // A text is answered a line at a time.
 #![tactic(auto)]
 
-ghost use Rattle.std.specs.Prelude.{◌≡◌, ◌≢◌, [], ◌∷◌, length, Ok, IsSome, OnOk, MatchOption};
+ghost use Rattle.std.specs.Prelude.{◌≡◌, ◌≢◌, [], ◌∷◌, ◌++◌, length, Ok, IsSome, OnOk, MatchOption, codes};
+ghost use Rattle.std.specs.Io.KnownBytes.{Appends};
 ghost use Rattle.std.specs.Fn.{FnReturnsAt};
 ghost use Rattle.lines.specs.Answers.{Shows, AnswersLines};
 ghost use Rattle.lines.specs.Words.{words_of};
@@ -12,6 +13,19 @@ use std::io::{self, BufRead, BufReader, LineWriter, Printer, Write};
 
 pub mod failure;
 pub mod words;
+
+// How much of a long line is written at a time: what a `LineWriter` holds.
+const PART: usize = 1024;
+
+// Writes a line and its end. A long line goes out part by part, and its end with the last part: a line end alone would take a page of a pipe's room to itself.
+fn write_line<W: Write>(out: &mut W, line: &str) -> io::Result<()>
+    ensures { OnOk result (Appends (W.contents out.old) (W.contents out.new) (line.now ++ codes "\n")) }
+{
+    for part in line.as_bytes().chunks(PART) {
+        out.write_all(part)?;
+    }
+    out.write_all(b"\n")
+}
 
 // Answers each line of the input by a line: what `answer` gives, or behind `cannot: ` what is wrong. The clause says what is written
 // where the input's bytes are known and the problems say what they print.
@@ -27,7 +41,7 @@ where
 {
     for line in input.lines(heap) {
         match answer(line?.as_str()) {
-            Ok(text) => writeln!(out, "{text}")?,
+            Ok(text) => write_line(out, &text)?,
             Err(problem) => writeln!(out, "cannot: {problem}")?,
         }
     }

@@ -57,18 +57,18 @@ between_part : (n a e : ℕ) (part : List ℕ) → a ≤ e → e ≤ n → take 
 between_part n a e part h l =
     ap (take (e - a)) (ap (λ k. drop a (take k part)) {x = n} {y = a + (n - a)} (omega arith) ∙ drop-take a (n - a) part) ∙ take-take (e - a) (n - a) (drop a part) (omega arith)
 
--- where `get` finds none of the first n bytes, which are at least omega, the row is bad
-pub part_none : {R : Type 0} (now : R → List ℕ) (om n a e : ℕ) (part : List ℕ) (r : Option R) → om ≤ length part → PartBy now (take n part) a e r → r ≡ None → om ≤ n → row_rises om part a e ≡ false
-part_none now om n a e part r long got none all = elim (subst (PartBy now (take n part) a e) none got).0 [
-  | inl l ↦ and_left _ _ (and_left _ _ (lt-leb a e l))
+-- where `get` finds none from b on of the first n bytes, which are at least omega, the row is bad, if it does not begin before b
+pub part_none : {R : Type 0} (now : R → List ℕ) (om n b a e : ℕ) (part : List ℕ) (r : Option R) → om ≤ length part → PartBy now (take n part) b e r → r ≡ None → om ≤ n → b ≤ a → row_rises om part a e ≡ false
+part_none now om n b a e part r long got none all begins = elim (subst (PartBy now (take n part) b e) none got).0 [
+  | inl l ↦ and_left _ _ (and_left _ _ (lt-leb a e (omega (arith, l, begins))))
   | inr l ↦ and_left _ _ (and_right _ _ (lt-leb e om (omega (arith, l, length-take n part))))
 ]
 
--- and where it finds one, and n is at most omega, the row is good if that part rises
-pub part_some : {R : Type 0} (now : R → List ℕ) (om n a e : ℕ) (part : List ℕ) (r : Option R) (x : R) → PartBy now (take n part) a e r → r ≡ Some x → n ≤ om →
+-- and where it finds one, n is at most omega, and the row begins at b, it is good if that part rises
+pub part_some : {R : Type 0} (now : R → List ℕ) (om n b a e : ℕ) (part : List ℕ) (r : Option R) (x : R) → PartBy now (take n part) b e r → r ≡ Some x → n ≤ om → b ≡ a →
     (row_rises om part a e ≡ rising (now x)) × (now x ≡ between a e part)
-part_some now om n a e part r x got some few =
-    let w = (subst (PartBy now (take n part) a e) some got).0 in
+part_some now om n b a e part r x got some few begins =
+    let w = (subst (PartBy now (take n part) a e) some (subst (λ k. PartBy now (take n part) k e r) begins got)).0 in
     let last : e ≤ n = omega (arith, w.1, length-take n part) in
     let is = w.2 ∙ between_part n a e part w.0 last in (
       ap (λ b. b && rising (between a e part)) (and_from _ _ (le-leb a e w.0) (le-leb e om (omega arith))) ∙ (true-and _ ∙ ap rising (sym is)),

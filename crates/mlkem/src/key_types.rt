@@ -63,9 +63,9 @@ impl<'a> EncapsulationKey<'a> {
         &self.bytes[384 * self.set.k..]
     }
 
-    // The matrix of the key, if every draw is full.
+    // The matrix of the key, if every draw is full. Rows behind it may be lent too.
     pub fn expand<H: Hash>(&self, a: &mut [[u16; 256]]) -> Result<(), Refusal>
-        requires { length a.old ≡ self.now.set.k * self.now.set.k }
+        requires { self.now.set.k * self.now.set.k ≤ length a.old }
         ensures drawn { let p = kem_numbers self.now.set in
             verdict_of result ≡ (if matrix_drawn H.Hash.hashes p (ek_rho p self.now.bytes.now) then 0 else 4) }
         ensures value { let p = kem_numbers self.now.set in

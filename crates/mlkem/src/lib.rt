@@ -52,12 +52,11 @@ pub fn encapsulate<H: Hash>(
         return Err(Refusal::Length);
     }
     let ek = EncapsulationKey::new(p, ek)?;
-    let mut room = [[0u16; 256]; 16];
-    let a = &mut room[0..p.k * p.k];
-    ek.expand::<H>(a)?;
+    let mut a = [[0u16; 256]; 16];
+    ek.expand::<H>(&mut a)?;
     let g = key_and_coins::<H>(ek.bytes, m);
     key.copy_from_slice(&g[0..32]);
-    encrypt::<H>(p, a, ek.bytes, m, &g[32..64], text);
+    encrypt::<H>(p, &a, ek.bytes, m, &g[32..64], text);
     Ok(())
 }
 
@@ -71,9 +70,8 @@ pub fn decapsulate<H: Hash>(set: u8, dk: &[u8], c: &[u8], key: &mut [u8; 32]) ->
         return Err(Refusal::Length);
     }
     let dk = DecapsulationKey::new::<H>(p, dk)?;
-    let mut room = [[0u16; 256]; 16];
-    let a = &mut room[0..p.k * p.k];
-    dk.encapsulation_key().expand::<H>(a)?;
-    dk.decapsulate::<H>(a, c, key);
+    let mut a = [[0u16; 256]; 16];
+    dk.encapsulation_key().expand::<H>(&mut a)?;
+    dk.decapsulate::<H>(&a, c, key);
     Ok(())
 }

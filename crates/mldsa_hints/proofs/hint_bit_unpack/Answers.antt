@@ -16,7 +16,7 @@ returns-in_err-places-clause-good c =
     let s = c.args.sig.now in
     let part = part_is p s _ _ c.c_length.ensures.value c.z_bits.ensures.value in
     let lookup = rw c.from-end.ensures at c.get.ensures.lookup in
-    let none = part_none _ p.omega _ c.loop-i.begin _ _ c.get.result (part_long p s _ part c.requires.long) lookup c.in_err-places.ensures.ok_part (omega arith) in
+    let none = part_none _ p.omega _ _ c.loop-i.begin _ _ c.get.result (part_long p s _ part c.requires.long) lookup c.in_err-places.ensures.ok_part (omega arith) (grind arith) in
     let bad = rise_stop p s _ part c.loop-i.i c.loop-i.begin (omega arith) c.loop-i.invariant.1 none in
     search (rules, bad)
 
@@ -26,7 +26,7 @@ returns-in_err-unpack_row-clause-good c =
     let s = c.args.sig.now in
     let part = part_is p s _ _ c.c_length.ensures.value c.z_bits.ensures.value in
     let lookup = rw c.from-end.ensures at c.get.ensures.lookup in
-    let is = part_some _ p.omega _ c.loop-i.begin _ _ c.get.result _ lookup c.in_ok-places.ensures.ok_part (omega arith) in
+    let is = part_some _ p.omega _ _ c.loop-i.begin _ _ c.get.result _ lookup c.in_ok-places.ensures.ok_part (omega arith) (grind arith) in
     let bad = rise_stop p s _ part c.loop-i.i c.loop-i.begin (omega arith) c.loop-i.invariant.1 (is.0 ∙ sym c.in_err-unpack_row.ensures.good) in
     search (rules, bad)
 
@@ -37,7 +37,7 @@ loop-i-preserved c =
     let i = c.loop-i.i in
     let part = part_is p s _ _ c.c_length.ensures.value c.z_bits.ensures.value in
     let lookup = rw c.from-end.ensures at c.get.ensures.lookup in
-    let is = part_some _ p.omega _ c.loop-i.begin _ _ c.get.result _ lookup c.in_ok-places.ensures.ok_part (omega arith) in
+    let is = part_some _ p.omega _ _ c.loop-i.begin _ _ c.get.result _ lookup c.in_ok-places.ensures.ok_part (omega arith) (grind arith) in
     let begins = c.loop-i.invariant.1 in
     let good = c.in_ok-unpack_row.ensures in
     let next = rise_next p s _ part i c.loop-i.begin begins (is.0 ∙ sym good.good) c.loop-i.invariant.2 in

@@ -1,7 +1,7 @@
 use Rattle.std.proofs.Common.{◌≡◌, ℕ, ◌*◌, ◌<◌, length}
 use Rattle.algebra.specs.RowArrays.{RowsFilled}
 use Rattle.kpke.specs.Matrix.{entry_at}
-use Rattle.kpke.proofs.vectors.expand.Given as goal
+use Rattle.kpke.proofs.vectors.draw_entries.Given as goal
 
 abbrev pub invariant-loop-n : goal.invariant-loop-n
 invariant-loop-n g l =

@@ -1,7 +1,7 @@
 use Rattle.std.proofs.Common.{◌*◌, arith, rules}
 use Rattle.algebra.proofs.RowArrays.{not_full}
 use Rattle.kpke.specs.Matrix.{entry_at}
-use Rattle.kpke.proofs.vectors.expand.Goals as goal
+use Rattle.kpke.proofs.vectors.draw_entries.Goals as goal
 
 -- the draw of one entry fell short
 pub returns-in_err-row-clause-drawn : goal.returns-in_err-row-clause-drawn
